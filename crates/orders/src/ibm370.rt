@@ -1,0 +1,56 @@
+// The order of the IBM 370: that of tso, and a load does not pass an earlier store of its own addressess.
+ghost use Rattle.orders.specs.Tables.{ibm-takes, ibm-before, no-fences, ibm-keeps};
+ghost use mathlib.Core.Path.{_≡_};
+ghost use Rattle.orders.specs.Fences.{rows};
+use crate::entries::Access;
+use crate::entries::Mark;
+use crate::entries::Op;
+use crate::entries::Shape;
+use crate::fences::Fences;
+use crate::order::MemoryOrder;
+use crf::fence::Fence;
+use crf::instruction::FenceKind;
+
+#[derive(Clone, Copy)]
+pub struct Ibm370;
+
+pub impl MemoryOrder for Ibm370 as Ibm370Order {
+    ghost taken = { λ _. ibm-takes };
+
+    ghost ahead = { λ _. ibm-before };
+
+    ghost behind = { λ _. no-fences };
+
+    ghost keeps = { λ _. ibm-keeps };
+
+    fn takes(&self, shape: Shape) -> bool
+        ensures { λ r. ⌜ r ≡ ibm-takes shape ⌝ }
+    {
+        match shape {
+            Shape::Access(Access { op: _, mark: Mark::Plain, address: _ }) => true,
+            Shape::Access(_) => false,
+            Shape::Barrier(mask) => mask == 4,
+        }
+    }
+
+    fn before(&self, shape: Shape) -> Fences
+        ensures { λ r. ⌜ rows r ≡ ibm-before shape ⌝ }
+    {
+        match shape {
+            Shape::Access(Access { op: Op::Load, mark: _, address }) => {
+                Fences::Two(Fence::own(FenceKind::Wr, address), Fence::all_to(FenceKind::Rr, address))
+            },
+            Shape::Access(Access { op: Op::Store, mark: _, address }) => {
+                Fences::Two(Fence::all_to(FenceKind::Rw, address), Fence::all_to(FenceKind::Ww, address))
+            },
+            Shape::Barrier(mask) => Fences::of_mask(mask),
+        }
+    }
+
+    fn after(&self, shape: Shape) -> Fences
+        ensures { λ r. ⌜ rows r ≡ no-fences shape ⌝ }
+    {
+        let _ = shape;
+        Fences::Zero
+    }
+}

@@ -1,0 +1,55 @@
+// Sequential consistency: keeps every pair.
+ghost use Rattle.orders.specs.Tables.{sc-takes, sc-before, no-fences, sc-keeps};
+ghost use mathlib.Core.Path.{_≡_};
+ghost use Rattle.orders.specs.Fences.{rows};
+use crate::entries::Access;
+use crate::entries::Mark;
+use crate::entries::Op;
+use crate::entries::Shape;
+use crate::fences::Fences;
+use crate::order::MemoryOrder;
+use crf::fence::Fence;
+use crf::instruction::FenceKind;
+
+#[derive(Clone, Copy)]
+pub struct Sc;
+
+pub impl MemoryOrder for Sc as ScOrder {
+    ghost taken = { λ _. sc-takes };
+
+    ghost ahead = { λ _. sc-before };
+
+    ghost behind = { λ _. no-fences };
+
+    ghost keeps = { λ _. sc-keeps };
+
+    fn takes(&self, shape: Shape) -> bool
+        ensures { λ r. ⌜ r ≡ sc-takes shape ⌝ }
+    {
+        match shape {
+            Shape::Access(Access { op: _, mark: Mark::Plain, address: _ }) => true,
+            _ => false,
+        }
+    }
+
+    fn before(&self, shape: Shape) -> Fences
+        ensures { λ r. ⌜ rows r ≡ sc-before shape ⌝ }
+    {
+        match shape {
+            Shape::Access(Access { op: Op::Load, mark: _, address }) => {
+                Fences::Two(Fence::all_to(FenceKind::Rr, address), Fence::all_to(FenceKind::Wr, address))
+            }
+            Shape::Access(Access { op: Op::Store, mark: _, address }) => {
+                Fences::Two(Fence::all_to(FenceKind::Rw, address), Fence::all_to(FenceKind::Ww, address))
+            }
+            Shape::Barrier(mask) => Fences::of_mask(mask),
+        }
+    }
+
+    fn after(&self, shape: Shape) -> Fences
+        ensures { λ r. ⌜ rows r ≡ no-fences shape ⌝ }
+    {
+        let _ = shape;
+        Fences::Zero
+    }
+}
