@@ -1,0 +1,3 @@
+pub mod Binders
+pub mod Fills
+pub mod Laying
