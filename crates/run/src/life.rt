@@ -98,6 +98,13 @@ impl<W: Word, M: Memory<Word = W>, O: MemoryOrder> Draft<W, M, O> {
 }
 
 impl<W: Word, M: Memory<Word = W>> Running<W, M> {
+    // How many steps were accepted so far.
+    pub fn used(&self) -> u32
+        ensures { λ r. ⌜ r ≡ now (self .entry) .used ⌝ }
+    {
+        self.used
+    }
+
     // Ends the run, at any moment.
     pub fn close(self) -> Closed<W, M>
         ensures { λ r. ⌜ (r .memory ≡ self .memory) × (r .count ≡ self .count) × (r .raw ≡ self .raw) × (r .used ≡ self .used) ⌝ }

@@ -1,0 +1,4 @@
+pub mod Faults
+pub mod Turns
+pub mod Records
+pub mod Audit

@@ -1,0 +1,6 @@
+// The audit of one run file: are its records, taken in turn, all accepted?
+pub mod audit;
+mod entries;
+pub mod fault;
+mod steps;
+pub mod verdict;

@@ -1,0 +1,5 @@
+pub mod Gapless
+pub mod Laying
+pub mod Numbers
+pub mod Rows
+pub mod Turns
