@@ -2,5 +2,6 @@
 pub mod audit;
 mod entries;
 pub mod fault;
+mod records;
 mod steps;
 pub mod verdict;

@@ -71,7 +71,8 @@ sound bs e =
       fits = leb-true (length bs) 65536 (r .0);
       few = leb-true (run-count bs) 32 (r .1);
       table = leb-true (runs-start bs) (length bs) (q .1);
-      runs = p .1 }
+      runs = p .1;
+    }
 
 -- a run of a sound day lies inside the file
 pub run-inside : (bs : List ℕ) (n : ℕ) → sound-day bs ≡ true → n < run-count bs → offset-of bs n + length-of bs n ≤ length bs

@@ -34,7 +34,8 @@ bounded-from h e =
       some-word = leb-true 1 (h .size) (s .0);
       few-words = leb-true (h .size) 1024 (s .1);
       known-code = leb-true (h .code) 6 (q .1);
-      few-entries = leb-true (h .entries) 512 (p .1) }
+      few-entries = leb-true (h .entries) 512 (p .1);
+    }
 
 -- its offsets are those of the layout, in a file of `len` bytes
 pub record Placed (h : Fields) (len : ℕ) : Type 0 where
@@ -49,7 +50,8 @@ placed-from h len e =
     record {
       entries = eqb-true (h .«entries_at») (entries-start h) (and-parts (words-placed h) (entries-placed h) (q .0) .1);
       steps = eqb-true (h .«steps_at») (steps-start h) (q .1);
-      end = eqb-true (file-end h) len (p .1) }
+      end = eqb-true (file-end h) len (p .1);
+    }
 
 pub bounded : (bs : List ℕ) → sound-run bs ≡ true → Bounded (fields-of bs)
 bounded bs e =
@@ -81,4 +83,5 @@ sized bs e =
     record {
       words = length-part bs 32 (4 * h .size) (omega (arith, p .end));
       entries = length-part bs (entries-start h) (12 * h .entries) (omega (arith, p .end));
-      steps = length-part bs (steps-start h) (12 * h .steps) (omega (arith, p .end)) }
+      steps = length-part bs (steps-start h) (12 * h .steps) (omega (arith, p .end));
+    }

@@ -1,5 +1,4 @@
 pub mod Gapless
 pub mod Laying
 pub mod Numbers
-pub mod Rows
 pub mod Turns

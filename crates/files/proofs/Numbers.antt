@@ -6,7 +6,8 @@ use native.Mathlib.Nat.{add-assoc}
 use native.Mathlib.Omega.{arith}
 use lib.ListN.{length, getD, take, drop}
 use Rattle.std.proofs.shelf.Lists.{getD-drop, take-rest}
-use Rattle.files.specs.Bytes.{four-bytes, number-at, numbers-of}
+use Rattle.memory.specs.Bytes.{fourBytes, wordsOf}
+use Rattle.files.specs.Bytes.{number-at}
 
 -- a number behind the first k bytes
 number-after : (bs : List ℕ) (k i : ℕ) → number-at (drop k bs) i ≡ number-at bs (k + i)
@@ -17,21 +18,13 @@ number-after bs k i = simp (getD-drop, add-assoc)
 pub number-rest : (bs : List ℕ) (k i : ℕ) → number-at (take (length bs - k) (drop k bs)) i ≡ number-at bs (k + i)
 number-rest bs k i = ap (λ xs. number-at xs i) (take-rest bs k) ∙ number-after bs k i
 
-pub numbers-length : (bs : List ℕ) → length (numbers-of bs) ≡ length bs / 4
-unfolding numbers-of
-numbers-length [] = refl
-numbers-length (a ∷ []) = refl
-numbers-length (a ∷ b ∷ []) = refl
-numbers-length (a ∷ b ∷ c ∷ []) = refl
-numbers-length (a ∷ b ∷ c ∷ d ∷ rest) = omega (arith, numbers-length rest)
-
-first-number : (a b c d : ℕ) (rest : List ℕ) → number-at (a ∷ b ∷ c ∷ d ∷ rest) 0 ≡ four-bytes a b c d
+first-number : (a b c d : ℕ) (rest : List ℕ) → number-at (a ∷ b ∷ c ∷ d ∷ rest) 0 ≡ fourBytes a b c d
 unfolding number-at
 first-number a b c d rest = refl
 
 -- number i starts at byte 4 * i
-pub numbers-read : (bs : List ℕ) (i e : ℕ) → i < length bs / 4 → number-at bs (4 * i) ≡ getD (numbers-of bs) i e
-unfolding numbers-of
+pub numbers-read : (bs : List ℕ) (i e : ℕ) → i < length bs / 4 → number-at bs (4 * i) ≡ getD (wordsOf bs) i e
+unfolding wordsOf
 numbers-read [] i e h = absurd (omega arith)
 numbers-read (a ∷ []) i e h = absurd (omega arith)
 numbers-read (a ∷ b ∷ []) i e h = absurd (omega arith)

@@ -1,12 +1,13 @@
 -- The header of a run file: eight numbers, their bounds, and where they put the sections.
 use Prim.Native.Nat.{ℕ, _+_, _*_}
-use mathlib.Core.Bool.{Bool, _&&_, cond}
+use mathlib.Core.Bool.{Bool, _&&_}
 use mathlib.Core.List.{List}
 use lib.Dec.{eqb, leb}
 use Rattle.std.specs.declared.option.Option.{Option}
 use Rattle.std.specs.declared.option.Option.the-variants.{Some, None}
 use Rattle.orders.specs.declared.chosen.AnyOrder.{AnyOrder}
-use Rattle.orders.specs.declared.chosen.AnyOrder.the-variants.{Sc, Tso, Pso, Rmo, Ibm370, Ia64}
+use Rattle.orders.specs.declared.chosen.AnyOrder.the-variants.{Tso}
+use Rattle.orders.specs.Chosen.{order-by-code}
 use Rattle.files.specs.Bytes.{number-at}
 use Rattle.files.specs.declared.header.Fields.{Fields}
 use Rattle.files.specs.declared.header.Header.{Header}
@@ -14,9 +15,15 @@ use Rattle.files.specs.declared.header.Header.{Header}
 -- the eight numbers of a header, in turn
 abbrev pub fields-of : List ℕ → Fields
 fields-of bs = record {
-    cards = number-at bs 0; size = number-at bs 4; code = number-at bs 8;
-    entries = number-at bs 12; «entries_at» = number-at bs 16;
-    steps = number-at bs 20; «steps_at» = number-at bs 24; «words_at» = number-at bs 28 }
+  cards = number-at bs 0;
+  size = number-at bs 4;
+  code = number-at bs 8;
+  entries = number-at bs 12;
+  «entries_at» = number-at bs 16;
+  steps = number-at bs 20;
+  «steps_at» = number-at bs 24;
+  «words_at» = number-at bs 28;
+}
 
 -- initial words start at byte 32, four bytes each; entries and then steps follow, 12 bytes each
 abbrev pub entries-start : Fields → ℕ
@@ -57,20 +64,14 @@ steps-placed h = eqb (h .«steps_at») (steps-start h)
 abbrev pub laid-out : Fields → ℕ → Bool
 laid-out h len = words-placed h && entries-placed h && steps-placed h && eqb (file-end h) len
 
--- the memory order of each code; 0 stands for none
-abbrev pub order-coded : ℕ → Option AnyOrder
-order-coded k =
-    cond (eqb k 1) (Some Sc) (cond (eqb k 2) (Some Tso) (cond (eqb k 3) (Some Pso)
-    (cond (eqb k 4) (Some Rmo) (cond (eqb k 5) (Some Ibm370) (cond (eqb k 6) (Some Ia64) None)))))
-
 -- the memory order of a run: tso where none was handed
 abbrev pub order-meant : Option AnyOrder → AnyOrder
 order-meant (Some o) = o
 order-meant None = Tso
 
--- what a header tells of the run
+-- what a header tells of the run; code 0 says that no memory order was handed
 abbrev pub header-in : Fields → Header
-header-in h = record { cards = h .cards; size = h .size; order = order-coded (h .code); entries = h .entries; steps = h .steps }
+header-in h = record { cards = h .cards; size = h .size; order = order-by-code (h .code); entries = h .entries; steps = h .steps }
 
 abbrev pub header-of : List ℕ → Header
 header-of bs = header-in (fields-of bs)

@@ -6,4 +6,3 @@ pub mod Reading
 pub mod Records
 pub mod Run
 pub mod Sections
-pub mod Tables

@@ -6,12 +6,12 @@ use lib.Dec.{leb}
 use lib.ListN.{length}
 use Rattle.std.specs.declared.result.Result.{Result}
 use Rattle.std.specs.declared.result.Result.the-variants.{Ok, Err}
-use Rattle.files.specs.Bytes.{numbers-of}
+use Rattle.memory.specs.Bytes.{wordsOf}
 use Rattle.files.specs.Header.{header-of}
 use Rattle.files.specs.Records.{decode-entry, decode-step}
 use Rattle.files.specs.Run.{sound-run, words-section, entries-section, steps-section}
 use Rattle.files.specs.Sections.{records-of}
-use Rattle.files.specs.Tables.{laid-over}
+use Rattle.memory.specs.Tables.{laid-over}
 use Rattle.files.specs.declared.header.Header.{Header}
 use Rattle.files.specs.declared.header.HeaderFault.the-variants as of-header
 use Rattle.files.specs.declared.read.ReadFault.{ReadFault}
@@ -40,15 +40,15 @@ both-read h ws (Err b) steps = Err (of-read.Entry (b .place) (b .fault))
 -- a header and the three sections behind it
 abbrev pub file-read : Header → List ℕ → List ℕ → List ℕ → Result Reading ReadFault
 file-read h words entries steps =
-    both-read h (numbers-of words) (records-of decode-entry entries (h .entries)) (records-of decode-step steps (h .steps))
+    both-read h (wordsOf words) (records-of decode-entry entries (h .entries)) (records-of decode-step steps (h .steps))
 
 -- reading a file into tables: the header is tested first, then the tables, then record by record
 abbrev pub reading : List ℕ → List ℕ → List CardEntry → List Step → Result Reading ReadFault
 reading bs words entries steps =
     cond (sound-run bs)
     (cond (has-room (header-of bs) (length words) (length entries) (length steps))
-        (file-read (header-of bs) (words-section bs) (entries-section bs) (steps-section bs))
-        (Err of-read.TooShort))
+    (file-read (header-of bs) (words-section bs) (entries-section bs) (steps-section bs))
+    (Err of-read.TooShort))
     (Err (of-read.Header of-header.Broken))
 
 -- the number of a refusal: that of the first test that fails

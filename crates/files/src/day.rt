@@ -8,11 +8,11 @@ ghost use Rattle.std.specs.declared.option.Option.the-variants.{Some, None};
 ghost use lib.ListN.{length};
 ghost use mathlib.Core.Bool.{true, false};
 ghost use mathlib.Core.Path.{_≡_};
-
 use crate::bytes::number_at;
 use crate::header::HeaderFault;
 
 const MAX_DAY_BYTES: usize = 65536;
+
 const MAX_RUNS: usize = 32;
 
 // The bytes of one run file, with its place in the day.
@@ -32,7 +32,11 @@ fn run_count(bytes: &[u8]) -> usize
     ensures { λ r. ⌜ r ≡ run-count (now (bytes .entry)) ⌝ }
     ensures { λ r. ⌜ r < 4294967296 ⌝ }
 {
-    if bytes.len() < 4 { 0 } else { number_at(bytes, 0) as usize }
+    if bytes.len() < 4 {
+        0
+    } else {
+        number_at(bytes, 0) as usize
+    }
 }
 
 // Whether the runs lie without a gap from the header's end to the file's.
@@ -54,7 +58,10 @@ fn is_sound(bytes: &[u8]) -> bool
     ensures { λ r. ⌜ r ≡ sound-day (now (bytes .entry)) ⌝ }
 {
     let count = run_count(bytes);
-    bytes.len() <= MAX_DAY_BYTES && count <= MAX_RUNS && 4 + 8 * count <= bytes.len() && is_gapless(bytes, count)
+    bytes.len() <= MAX_DAY_BYTES
+        && count <= MAX_RUNS
+        && 4 + 8 * count <= bytes.len()
+        && is_gapless(bytes, count)
 }
 
 impl<'a> DayFile<'a> {
@@ -88,6 +95,9 @@ impl<'a> DayFile<'a> {
         if end > bytes.len() {
             return None;
         }
-        Some(RunBytes { bytes: &bytes[offset..end], place: n })
+        Some(RunBytes {
+            bytes: &bytes[offset..end],
+            place: n,
+        })
     }
 }

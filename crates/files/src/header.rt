@@ -1,9 +1,8 @@
 // The header of a run file.
 ghost use Prim.Native.Nat.{_≤_};
-ghost use Rattle.files.specs.Header.{fields-of, in-bounds, laid-out, order-coded, order-meant, header-in};
+ghost use Rattle.files.specs.Header.{fields-of, in-bounds, laid-out, order-meant, header-in};
 ghost use lib.ListN.{length};
 ghost use mathlib.Core.Path.{_≡_};
-
 use crate::bytes::number_at;
 use crate::sections::RECORD_BYTES;
 use orders::chosen::AnyOrder;
@@ -12,8 +11,11 @@ use orders::chosen::AnyOrder;
 pub(crate) const HEADER_BYTES: usize = 32;
 
 const MAX_CARDS: u32 = 8;
+
 const MAX_SIZE: u32 = 1024;
+
 const MAX_ENTRIES: u32 = 512;
+
 const LAST_CODE: u32 = 6;
 
 // Why a run file or a day file is refused.
@@ -48,20 +50,6 @@ pub(crate) struct Fields {
     pub(crate) steps: u32,
     pub(crate) steps_at: u32,
     pub(crate) words_at: u32,
-}
-
-fn order_coded(code: u32) -> Option<AnyOrder>
-    ensures { λ r. ⌜ r ≡ order-coded code ⌝ }
-{
-    match code {
-        1 => Some(AnyOrder::Sc),
-        2 => Some(AnyOrder::Tso),
-        3 => Some(AnyOrder::Pso),
-        4 => Some(AnyOrder::Rmo),
-        5 => Some(AnyOrder::Ibm370),
-        6 => Some(AnyOrder::Ia64),
-        _ => None,
-    }
 }
 
 impl Fields {
@@ -111,7 +99,7 @@ impl Fields {
         Header {
             cards: self.cards,
             size: self.size,
-            order: order_coded(self.code),
+            order: AnyOrder::by_code(self.code),
             entries: self.entries,
             steps: self.steps,
         }

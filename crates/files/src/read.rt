@@ -9,16 +9,15 @@ ghost use Rattle.std.specs.Vec.{made};
 ghost use Rattle.std.specs.declared.option.Option.the-variants.{None};
 ghost use Rattle.std.specs.declared.result.Result.the-variants.{Err};
 ghost use mathlib.Core.Path.{_≡_};
-
 use crate::header::Header;
 use crate::header::HeaderFault;
+use crate::records::CardEntry;
+use crate::records::RecordFault;
+use crate::run_file::RunFile;
 use crate::sections::EntryRecord;
 use crate::sections::StepRecord;
 use crate::sections::check_records;
 use crate::sections::records_into;
-use crate::records::CardEntry;
-use crate::records::RecordFault;
-use crate::run_file::RunFile;
 use crate::step::Step;
 use crate::words::words_into;
 
@@ -44,7 +43,9 @@ pub impl From<HeaderFault> for ReadFault as ReadFromHeader {
 fn has_room(header: Header, words: usize, entries: usize, steps: usize) -> bool
     ensures { λ r. ⌜ r ≡ has-room header words entries steps ⌝ }
 {
-    header.size as usize <= words && header.entries as usize <= entries && header.steps as usize <= steps
+    header.size as usize <= words
+        && header.entries as usize <= entries
+        && header.steps as usize <= steps
 }
 
 // Refuses the first record that is against the layout, entries before steps.
@@ -53,16 +54,27 @@ fn check_file(file: RunFile<'_>) -> Result<(), ReadFault>
     ensures steps { λ r. ⌜ made r (λ _. fault-in (records-of decode-step (now (file .entry .steps)) (file .entry .header .steps)) ≡ None) ⌝ }
 {
     if let Err(bad) = check_records::<CardEntry>(file.entries, file.header.entries) {
-        return Err(ReadFault::Entry { place: bad.place, fault: bad.fault });
+        return Err(ReadFault::Entry {
+            place: bad.place,
+            fault: bad.fault,
+        });
     }
     if let Err(bad) = check_records::<Step>(file.steps, file.header.steps) {
-        return Err(ReadFault::Step { place: bad.place, fault: bad.fault });
+        return Err(ReadFault::Step {
+            place: bad.place,
+            fault: bad.fault,
+        });
     }
     Ok(())
 }
 
 // Reads a run file into the first rows of the tables; a refused call leaves them as they were.
-pub fn read_run(bytes: &[u8], words: &mut [u32], entries: &mut [CardEntry], steps: &mut [Step]) -> Result<Header, ReadFault>
+pub fn read_run(
+    bytes: &[u8],
+    words: &mut [u32],
+    entries: &mut [CardEntry],
+    steps: &mut [Step],
+) -> Result<Header, ReadFault>
     ensures answer { λ r. ⌜ r ≡ header-read (reading (now (bytes .entry)) (now (words .entry)) (now (entries .entry)) (now (steps .entry))) ⌝ }
     ensures words { λ _. ⌜ now (words .exit) ≡ words-after (reading (now (bytes .entry)) (now (words .entry)) (now (entries .entry)) (now (steps .entry))) (now (words .entry)) ⌝ }
     ensures entries { λ _. ⌜ now (entries .exit) ≡ entries-after (reading (now (bytes .entry)) (now (words .entry)) (now (entries .entry)) (now (steps .entry))) (now (entries .entry)) ⌝ }

@@ -2,7 +2,6 @@
 ghost use Rattle.files.specs.Faults.{Numbered, record-fault-number};
 ghost use Rattle.files.specs.Records.{mark-of, entry-of, step-of, decode-entry, decode-step};
 ghost use mathlib.Core.Path.{_≡_};
-
 use crate::bytes::number_at;
 use crate::step::Step;
 use orders::entries::Entry;
@@ -33,12 +32,25 @@ fn mark_of(code: u8) -> Result<Mark, RecordFault>
     }
 }
 
-fn entry_of(kind: u8, mark: u8, mask: u8, address: u32, word: u32) -> Result<Entry<u32>, RecordFault>
+fn entry_of(
+    kind: u8,
+    mark: u8,
+    mask: u8,
+    address: u32,
+    word: u32,
+) -> Result<Entry<u32>, RecordFault>
     ensures { λ r. ⌜ r ≡ entry-of kind mark mask address word ⌝ }
 {
     match (kind, mark, mask, address, word) {
-        (1, _, 0, _, 0) => Ok(Entry::Load { mark: mark_of(mark)?, address }),
-        (2, _, 0, _, _) => Ok(Entry::Store { mark: mark_of(mark)?, address, word }),
+        (1, _, 0, _, 0) => Ok(Entry::Load {
+            mark: mark_of(mark)?,
+            address,
+        }),
+        (2, _, 0, _, _) => Ok(Entry::Store {
+            mark: mark_of(mark)?,
+            address,
+            word,
+        }),
         (3, 0, _, 0, 0) => Ok(Entry::Barrier { mask }),
         _ => Err(RecordFault::Field),
     }
@@ -63,11 +75,27 @@ fn step_of(kind: u8, card: u8, place: u32, word: u32) -> Result<Step, RecordFaul
     ensures { λ r. ⌜ r ≡ step-of kind card place word ⌝ }
 {
     match (kind, word) {
-        (1, 0) => Ok(Step::Perform { card, position: place }),
-        (2, _) => Ok(Step::PerformRecorded { card, position: place, word }),
-        (3, 0) => Ok(Step::Cache { card, address: place }),
-        (4, 0) => Ok(Step::WriteBack { card, address: place }),
-        (5, 0) => Ok(Step::Purge { card, address: place }),
+        (1, 0) => Ok(Step::Perform {
+            card,
+            position: place,
+        }),
+        (2, _) => Ok(Step::PerformRecorded {
+            card,
+            position: place,
+            word,
+        }),
+        (3, 0) => Ok(Step::Cache {
+            card,
+            address: place,
+        }),
+        (4, 0) => Ok(Step::WriteBack {
+            card,
+            address: place,
+        }),
+        (5, 0) => Ok(Step::Purge {
+            card,
+            address: place,
+        }),
         _ => Err(RecordFault::Field),
     }
 }

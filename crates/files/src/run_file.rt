@@ -9,7 +9,6 @@ ghost use Rattle.std.specs.Vec.{made};
 ghost use lib.ListN.{length};
 ghost use mathlib.Core.Bool.{true, false};
 ghost use mathlib.Core.Path.{_≡_};
-
 use crate::header::Fields;
 use crate::header::HEADER_BYTES;
 use crate::header::Header;

@@ -3,7 +3,7 @@ ghost use Prim.Native.Nat.{ℕ, _*_, _≤_};
 ghost use Rattle.files.specs.Bytes.{part};
 ghost use Rattle.files.specs.Records.{decode-entry, decode-step};
 ghost use Rattle.files.specs.Sections.{records-of, fault-in};
-ghost use Rattle.files.specs.Tables.{laid-over};
+ghost use Rattle.memory.specs.Tables.{laid-over};
 ghost use Rattle.files.specs.declared.records.RecordFault.{RecordFault};
 ghost use Rattle.files.specs.declared.records.RecordFault.the-variants.{Field};
 ghost use Rattle.std.specs.Results.{Cases};
@@ -13,7 +13,6 @@ ghost use Rattle.std.specs.declared.result.Result.the-variants.{Ok, Err};
 ghost use lib.ListN.{length};
 ghost use mathlib.Core.List.{List};
 ghost use mathlib.Core.Path.{_≡_};
-
 use crate::records::CardEntry;
 use crate::records::RecordFault;
 use crate::records::decode_entry;

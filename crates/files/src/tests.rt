@@ -10,14 +10,114 @@ use std::test::*;
 
 // One run: sc, one card, one word that starts as 7, a load of it, and the five steps that work it.
 const RUN: [u8; 108] = [
-    1, 0, 0, 0, 1, 0, 0, 0, 1, 0, 0, 0, 1, 0, 0, 0, 36, 0, 0, 0, 5, 0, 0, 0, 48, 0, 0, 0, 32, 0, 0, 0, // header
-    7, 0, 0, 0, // initial word
-    0, 1, 0, 0, 0, 0, 0, 0, 0, 0, 0, 0, // load 0
-    1, 0, 0, 0, 0, 0, 0, 0, 0, 0, 0, 0, // perform 0
-    1, 0, 0, 0, 1, 0, 0, 0, 0, 0, 0, 0, // perform 1
-    1, 0, 0, 0, 2, 0, 0, 0, 0, 0, 0, 0, // perform 2
-    3, 0, 0, 0, 0, 0, 0, 0, 0, 0, 0, 0, // cache 0
-    2, 0, 0, 0, 3, 0, 0, 0, 7, 0, 0, 0, // perform 3 with word 7
+    1,
+    0,
+    0,
+    0,
+    1,
+    0,
+    0,
+    0,
+    1,
+    0,
+    0,
+    0,
+    1,
+    0,
+    0,
+    0,
+    36,
+    0,
+    0,
+    0,
+    5,
+    0,
+    0,
+    0,
+    48,
+    0,
+    0,
+    0,
+    32,
+    0,
+    0,
+    0, // header
+    7,
+    0,
+    0,
+    0, // initial word
+    0,
+    1,
+    0,
+    0,
+    0,
+    0,
+    0,
+    0,
+    0,
+    0,
+    0,
+    0, // load 0
+    1,
+    0,
+    0,
+    0,
+    0,
+    0,
+    0,
+    0,
+    0,
+    0,
+    0,
+    0, // perform 0
+    1,
+    0,
+    0,
+    0,
+    1,
+    0,
+    0,
+    0,
+    0,
+    0,
+    0,
+    0, // perform 1
+    1,
+    0,
+    0,
+    0,
+    2,
+    0,
+    0,
+    0,
+    0,
+    0,
+    0,
+    0, // perform 2
+    3,
+    0,
+    0,
+    0,
+    0,
+    0,
+    0,
+    0,
+    0,
+    0,
+    0,
+    0, // cache 0
+    2,
+    0,
+    0,
+    0,
+    3,
+    0,
+    0,
+    0,
+    7,
+    0,
+    0,
+    0, // perform 3 with word 7
 ];
 
 // The count, the run's offset and its length.
@@ -37,27 +137,50 @@ fn sample_day() -> Result<(), Fail> {
     check(DayFile::open(&bytes[0..119]).is_err())
 }
 
+fn is_plain_load(row: CardEntry) -> bool {
+    matches!(
+        row,
+        CardEntry {
+            card: 0,
+            entry: Entry::Load {
+                mark: Mark::Plain,
+                address: 0
+            }
+        }
+    )
+}
+
 fn is_step(step: Step, kind: u8, place: u32) -> bool {
     match step {
         Step::Perform { card: 0, position } => kind == 1 && position == place,
-        Step::PerformRecorded { card: 0, position, word: 7 } => kind == 2 && position == place,
+        Step::PerformRecorded {
+            card: 0,
+            position,
+            word: 7,
+        } => kind == 2 && position == place,
         Step::Cache { card: 0, address } => kind == 3 && address == place,
+        Step::Purge { card: 0, address } => kind == 5 && address == place,
         _ => false,
     }
 }
 
 #[test]
 fn sample_run() -> Result<(), Fail> {
-    let behind = Step::Purge { card: 9, address: 9 };
     let mut words = [9; 2];
-    let mut entries = [CardEntry { card: 9, entry: Entry::Barrier { mask: 9 } }; 2];
-    let mut steps = [behind; 6];
-    let header = read_run(&RUN, &mut words, &mut entries, &mut steps).ok().ok_or("the run is refused")?;
+    let mut entries = [CardEntry {
+        card: 9,
+        entry: Entry::Barrier { mask: 9 },
+    }; 2];
+    let mut steps = [Step::Purge {
+        card: 0,
+        address: 9,
+    }; 6];
+    let header = read_run(&RUN, &mut words, &mut entries, &mut steps)
+        .ok()
+        .ok_or("the run is refused")?;
     check(header.cards == 1 && header.size == 1 && header.entries == 1 && header.steps == 5)?;
     check(matches!(header.memory_order(), AnyOrder::Sc))?;
-    check(words == [7, 9])?;
-    check(matches!(entries[0], CardEntry { card: 0, entry: Entry::Load { mark: Mark::Plain, address: 0 } }))?;
+    check(words == [7, 9] && is_plain_load(entries[0]))?;
     check(is_step(steps[0], 1, 0) && is_step(steps[1], 1, 1) && is_step(steps[2], 1, 2))?;
-    check(is_step(steps[3], 3, 0) && is_step(steps[4], 2, 3))?;
-    check(matches!(steps[5], Step::Purge { card: 9, address: 9 }))
+    check(is_step(steps[3], 3, 0) && is_step(steps[4], 2, 3) && is_step(steps[5], 5, 9))
 }

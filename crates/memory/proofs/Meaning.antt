@@ -22,6 +22,12 @@ read-out [] a h = refl
 read-out (w ∷ ws) zero h = absurd (not-suc-le-zero h)
 read-out (w ∷ ws) (suc a) h = read-out ws a (le-of-suc-le-suc h)
 
+-- what there is to read below the size
+pub read-some : {W : Type 0} (ws : List W) (a : ℕ) → a < length ws → (x : W) × (Ok x ≡ readOf ws a) × (x ≡ getD ws a x)
+read-some [] a h = absurd (not-suc-le-zero h)
+read-some (w ∷ ws) zero h = (w, refl, refl)
+read-some (w ∷ ws) (suc a) h = read-some ws a (le-of-suc-le-suc h)
+
 pub write-in : {W : Type 0} (ws : List W) (a : ℕ) → a < length ws → Ok tt ≡ writeOf ws a
 write-in ws a h = grind (arith, tells)
 

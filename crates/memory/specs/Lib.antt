@@ -2,3 +2,4 @@ pub mod Fault
 pub mod Meaning
 pub mod Shown
 pub mod Bytes
+pub mod Tables

@@ -2,7 +2,7 @@ use Prim.Native.Nat.{ℕ, _≤_}
 use mathlib.Core.Path.{_≡_, sym, _∙_, ap}
 use native.Mathlib.Omega.{arith}
 use lib.ListN.{length, getD, set}
-use Rattle.files.proofs.Rows.{laid-none, laid-more, laid-all}
+use Rattle.memory.proofs.Tables.{laid-none, laid-more, laid-all}
 use Rattle.files.proofs.Turns.{records-length, record-read}
 use Rattle.files.proofs.sections.records_into.Needs as need
 use Rattle.files.proofs.sections.records_into.Needs.{in-Ok, in-rest}
@@ -16,12 +16,13 @@ loop-n-again g c xs e =
     let l = records-length (g .R·Record .decoded) (c .args .section .now) (c .args .count) 0 xs e in
     let p = record-read (g .R·Record .decoded) (c .args .section .now) (c .args .count) xs n e (omega arith) in
     elim (c .match-record-at .came) [
-      in-Ok w ↦
-        let is : w .in-Ok .record ≡ p .0 = cc in
-        let here : w .in-Ok .record ≡ getD xs n (w .in-Ok .record) = cc in
-        w .rows-is ∙ ap (λ rows. set rows n (w .in-Ok .record)) (c .loop-n .inv xs e)
-        ∙ laid-more xs (c .args .rows .now) n (w .in-Ok .record) (omega arith) (omega arith) here
-    | in-rest w ↦ let z : _≡_ {A = ℕ} 0 1 = cc in absurd (omega arith) ]
+      | in-Ok w ↦
+          let is : w .in-Ok .record ≡ p .0 = cc in
+          let here : w .in-Ok .record ≡ getD xs n (w .in-Ok .record) = cc in
+          w .rows-is ∙ ap (λ rows. set rows n (w .in-Ok .record)) (c .loop-n .inv xs e)
+          ∙ laid-more xs (c .args .rows .now) n (w .in-Ok .record) (omega arith) (omega arith) here
+      | in-rest w ↦ let z : _≡_ {A = ℕ} 0 1 = cc in absurd (omega arith)
+    ]
 
 pub returns : need.returns
 returns g c xs e =

@@ -3,7 +3,7 @@ use mathlib.Core.Path.{_≡_}
 use lib.ListN.{take}
 use Rattle.std.specs.declared.result.Result.the-variants.{Ok}
 use Rattle.files.specs.Sections.{records-of}
-use Rattle.files.specs.Tables.{laid-over}
+use Rattle.memory.specs.Tables.{laid-over}
 use Rattle.files.proofs.sections.records_into.Given as given
 
 abbrev pub Inv-loop-n : given.InvT-loop-n

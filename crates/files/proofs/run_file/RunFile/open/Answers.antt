@@ -26,7 +26,9 @@ returns c =
       words = words;
       entries = entries;
       steps = steps;
-      lengths =
-        ( ap length words ∙ z .words ∙ ap (λ (h : Header). 4 * h .size) (sym header)
-        , ap length entries ∙ z .entries ∙ ap (λ (h : Header). 12 * h .entries) (sym header)
-        , ap length steps ∙ z .steps ∙ ap (λ (h : Header). 12 * h .steps) (sym header) ) }
+      lengths = (
+        ap length words ∙ z .words ∙ ap (λ (h : Header). 4 * h .size) (sym header),
+        ap length entries ∙ z .entries ∙ ap (λ (h : Header). 12 * h .entries) (sym header),
+        ap length steps ∙ z .steps ∙ ap (λ (h : Header). 12 * h .steps) (sym header),
+      );
+    }

@@ -5,7 +5,11 @@ use mathlib.Core.Path.{_≡_, refl, sym, ap, _∙_}
 use native.Mathlib.Numerals.{add-one}
 use native.Mathlib.Omega.{arith}
 use lib.ListN.{length, getD, set, take, drop}
-use Rattle.files.specs.Tables.{laid-over}
+use Rattle.std.specs.declared.result.Result.{Result}
+use Rattle.memory.specs.declared.fault.MemoryFault.{MemoryFault}
+use Rattle.memory.specs.Meaning.{readOf}
+use Rattle.memory.specs.Tables.{laid-over, word-copied}
+use Rattle.memory.proofs.Meaning.{read-some}
 
 laid-nothing : {A : Type 0} (old : List A) → laid-over [] old ≡ old
 laid-nothing [] = refl
@@ -38,3 +42,9 @@ laid-all [] old (suc i) h = refl
 laid-all (x ∷ xs) [] i h = laid-nowhere (take i (x ∷ xs))
 laid-all (x ∷ xs) (y ∷ ys) zero h = absurd (omega arith)
 laid-all (x ∷ xs) (y ∷ ys) (suc i) h = ap (λ rows. x ∷ rows) (laid-all xs ys i (omega arith))
+
+-- one word of a memory more
+pub copied-more : {W : Type 0} (ms old rows after : List W) (a : ℕ) → a < length ms → a < length old → rows ≡ laid-over (take a ms) old → after ≡ word-copied (readOf ms a) a rows → after ≡ laid-over (take (a + 1) ms) old
+copied-more {W} ms old rows after a h l e f =
+    let x = read-some ms a h in
+    f ∙ ap (λ (r : Result W MemoryFault). word-copied r a rows) (sym (x .1)) ∙ ap (λ (t : List W). set t a (x .0)) e ∙ laid-more ms old a (x .0) h l (x .2)
