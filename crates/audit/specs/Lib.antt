@@ -2,3 +2,4 @@ pub mod Faults
 pub mod Turns
 pub mod Records
 pub mod Audit
+pub mod Alone
