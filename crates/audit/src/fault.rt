@@ -59,7 +59,7 @@ impl RowFault {
         ensures { λ r. ⌜ r ≡ row-fault-number (now (self .entry)) ⌝ }
     {
         match self {
-            RowFault::Record(RecordFault::Field) => 16,
+            RowFault::Record(fault) => fault.number(),
             RowFault::Program(fault) => fault.number(),
             RowFault::Step(fault) => fault.number(),
         }
@@ -72,7 +72,7 @@ impl FileFault {
         ensures { λ r. ⌜ r ≡ file-fault-number (now (self .entry)) ⌝ }
     {
         match self {
-            FileFault::Header(HeaderFault::Broken) => 15,
+            FileFault::Header(fault) => fault.number(),
             FileFault::Entry(stop) => stop.fault.number(),
             FileFault::Step(stop) => stop.fault.number(),
         }

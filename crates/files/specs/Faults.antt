@@ -1,4 +1,4 @@
--- The number of each refusal.
+-- What each refusal tells: its number, its layer and its place.
 use Prim.Native.Nat.{ℕ}
 use mathlib.Core.Path.{_≡_}
 use Rattle.std.specs.declared.result.Result.{Result}
@@ -25,21 +25,31 @@ read-fault-number of-read.TooShort = 1
 read-fault-number (of-read.Entry p f) = record-fault-number f
 read-fault-number (of-read.Step p f) = record-fault-number f
 
--- the layer: 2 the header, 3 an entry, 4 a step
+-- its layer: 2 the header, 3 an entry, 4 a step, 0 none
 abbrev pub read-fault-layer : ReadFault → ℕ
 read-fault-layer (of-read.Header f) = 2
 read-fault-layer of-read.TooShort = 0
 read-fault-layer (of-read.Entry p f) = 3
 read-fault-layer (of-read.Step p f) = 4
 
--- the place of the entry or the step
+-- its place: that of the entry or the step, else 0
 abbrev pub read-fault-place : ReadFault → ℕ
 read-fault-place (of-read.Header f) = 0
 read-fault-place of-read.TooShort = 0
 read-fault-place (of-read.Entry p f) = p
 read-fault-place (of-read.Step p f) = p
 
--- where a call is refused, the number of its fault is n
-abbrev pub Numbered : {X E : Type 0} → (E → ℕ) → ℕ → Result X E → Type 0
-Numbered number n (Ok x) = Unit {0}
-Numbered number n (Err e) = number e ≡ n
+-- all that a refusal tells
+pub record Refusal : Type 0 where
+  pub number : ℕ
+  pub layer : ℕ
+  pub place : ℕ
+
+-- what a fault in reading a run file tells
+abbrev pub read-refusal : ReadFault → Refusal
+read-refusal f = record { number = read-fault-number f; layer = read-fault-layer f; place = read-fault-place f }
+
+-- where a call is refused, its fault tells t
+abbrev pub Refused-with : {X E T : Type 0} → (E → T) → T → Result X E → Type 0
+Refused-with told t (Ok x) = Unit {0}
+Refused-with told t (Err e) = told e ≡ t

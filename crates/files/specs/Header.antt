@@ -25,42 +25,51 @@ fields-of bs = record {
   «words_at» = number-at bs 28;
 }
 
--- initial words start at byte 32, four bytes each; entries and then steps follow, 12 bytes each
+-- where the entries start: behind the initial words, which start at byte 32 and have four bytes each
 abbrev pub entries-start : Fields → ℕ
 entries-start h = 32 + 4 * h .size
 
+-- where the steps start: behind the entries, which have 12 bytes each
 abbrev pub steps-start : Fields → ℕ
 steps-start h = entries-start h + 12 * h .entries
 
+-- where the file ends: behind the steps, which have 12 bytes each
 abbrev pub file-end : Fields → ℕ
 file-end h = steps-start h + 12 * h .steps
 
--- the bounds
+-- one to eight cards
 abbrev pub cards-fit : Fields → Bool
 cards-fit h = leb 1 (h .cards) && leb (h .cards) 8
 
+-- a memory of 1 to 1,024 words
 abbrev pub size-fits : Fields → Bool
 size-fits h = leb 1 (h .size) && leb (h .size) 1024
 
+-- the code of a memory order, or 0
 abbrev pub order-known : Fields → Bool
 order-known h = leb (h .code) 6
 
+-- at most 512 entries; the steps are bounded by the file's length alone
 abbrev pub entries-fit : Fields → Bool
 entries-fit h = leb (h .entries) 512
 
+-- all bounds
 abbrev pub in-bounds : Fields → Bool
 in-bounds h = cards-fit h && size-fits h && order-known h && entries-fit h
 
--- the layout, in a file of `len` bytes
+-- each offset is the place where its section starts
 abbrev pub words-placed : Fields → Bool
 words-placed h = eqb (h .«words_at») 32
 
+-- the entries' offset
 abbrev pub entries-placed : Fields → Bool
 entries-placed h = eqb (h .«entries_at») (entries-start h)
 
+-- the steps' offset
 abbrev pub steps-placed : Fields → Bool
 steps-placed h = eqb (h .«steps_at») (steps-start h)
 
+-- the layout of a file of `len` bytes
 abbrev pub laid-out : Fields → ℕ → Bool
 laid-out h len = words-placed h && entries-placed h && steps-placed h && eqb (file-end h) len
 
@@ -73,5 +82,6 @@ order-meant None = Tso
 abbrev pub header-in : Fields → Header
 header-in h = record { cards = h .cards; size = h .size; order = order-by-code (h .code); entries = h .entries; steps = h .steps }
 
+-- the same, from the file's bytes
 abbrev pub header-of : List ℕ → Header
 header-of bs = header-in (fields-of bs)

@@ -21,10 +21,12 @@ use Rattle.files.specs.declared.step.Step.the-variants.{Perform, PerformRecord
 abbrev pub mark-of : ℕ → Result Mark RecordFault
 mark-of m = cond (eqb m 0) (Ok Plain) (cond (eqb m 1) (Ok Acquire) (cond (eqb m 2) (Ok Release) (Err Field)))
 
+-- a load, where its mark is one
 abbrev pub load-of : Result Mark RecordFault → ℕ → Result (Entry ℕ) RecordFault
 load-of (Ok m) a = Ok (Load m a)
 load-of (Err f) a = Err f
 
+-- a store, where its mark is one
 abbrev pub store-of : Result Mark RecordFault → ℕ → ℕ → Result (Entry ℕ) RecordFault
 store-of (Ok m) a w = Ok (Store m a w)
 store-of (Err f) a w = Err f
@@ -37,6 +39,7 @@ entry-of kind mark mask a w =
     (cond (eqb kind 3 && eqb mark 0 && eqb a 0 && eqb w 0) (Ok (Barrier mask))
     (Err Field)))
 
+-- an entry with its card
 abbrev pub of-card : ℕ → Result (Entry ℕ) RecordFault → Result CardEntry RecordFault
 of-card c (Ok e) = Ok (record { card = c; entry = e })
 of-card c (Err f) = Err f
@@ -65,9 +68,10 @@ decode-step bs =
     (step-of (getD bs 0 0) (getD bs 1 0) (number-at bs 4) (number-at bs 8))
     (Err Field)
 
--- record n of a section; past the section's end the part is short, and refused
+-- entry n of a section; past the section's end the part is short, and refused
 abbrev pub entry-at : List ℕ → ℕ → Result CardEntry RecordFault
 entry-at section n = decode-entry (part section (12 * n) 12)
 
+-- step n of a section, likewise
 abbrev pub step-at : List ℕ → ℕ → Result Step RecordFault
 step-at section n = decode-step (part section (12 * n) 12)

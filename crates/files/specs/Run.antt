@@ -7,6 +7,7 @@ use lib.ListN.{length}
 use Rattle.files.specs.Bytes.{part}
 use Rattle.files.specs.Header.{fields-of, entries-start, steps-start, in-bounds, laid-out}
 
+-- there is room for a header
 abbrev pub has-header : List ℕ → Bool
 has-header bs = leb 32 (length bs)
 
@@ -14,12 +15,14 @@ has-header bs = leb 32 (length bs)
 abbrev pub sound-run : List ℕ → Bool
 sound-run bs = has-header bs && in-bounds (fields-of bs) && laid-out (fields-of bs) (length bs)
 
--- the three sections
+-- the initial words
 abbrev pub words-section : List ℕ → List ℕ
 words-section bs = part bs 32 (4 * fields-of bs .size)
 
+-- the entries, right behind them
 abbrev pub entries-section : List ℕ → List ℕ
 entries-section bs = part bs (entries-start (fields-of bs)) (12 * fields-of bs .entries)
 
+-- the steps, right behind those
 abbrev pub steps-section : List ℕ → List ℕ
 steps-section bs = part bs (steps-start (fields-of bs)) (12 * fields-of bs .steps)

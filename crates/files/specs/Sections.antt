@@ -20,9 +20,11 @@ unfoldable pub records-from : {R : Type 0} → (List ℕ → Result R RecordFaul
 records-from decode section zero k = Ok []
 records-from decode section (suc m) k = and-then k (decode (part section (12 * k) 12)) (records-from decode section m (k + 1))
 
+-- the first `count` records of a section
 abbrev pub records-of : {R : Type 0} → (List ℕ → Result R RecordFault) → List ℕ → ℕ → Result (List R) BadRecord
 records-of decode section count = records-from decode section count 0
 
+-- the record that is refused, if any
 abbrev pub fault-in : {R : Type 0} → Result (List R) BadRecord → Option BadRecord
 fault-in (Ok xs) = None
 fault-in (Err b) = Some b

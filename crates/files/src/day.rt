@@ -22,6 +22,7 @@ pub struct RunBytes<'a> {
     pub place: usize,
 }
 
+// A day file whose runs are shown as parts of it.
 #[derive(Clone, Copy)]
 pub struct DayFile<'a> {
     bytes: &'a [u8],
@@ -29,8 +30,8 @@ pub struct DayFile<'a> {
 
 // How many runs the header announces; a file with no room for the count has none.
 fn run_count(bytes: &[u8]) -> usize
-    ensures { λ r. ⌜ r ≡ run-count (now (bytes .entry)) ⌝ }
-    ensures { λ r. ⌜ r < 4294967296 ⌝ }
+    ensures counted { λ r. ⌜ r ≡ run-count (now (bytes .entry)) ⌝ }
+    ensures small { λ r. ⌜ r < 4294967296 ⌝ }
 {
     if bytes.len() < 4 {
         0

@@ -1,5 +1,6 @@
 // The header of a run file.
 ghost use Prim.Native.Nat.{_≤_};
+ghost use Rattle.files.specs.Faults.{header-fault-number};
 ghost use Rattle.files.specs.Header.{fields-of, in-bounds, laid-out, order-meant, header-in};
 ghost use lib.ListN.{length};
 ghost use mathlib.Core.Path.{_≡_};
@@ -23,6 +24,17 @@ const LAST_CODE: u32 = 6;
 pub enum HeaderFault {
     // The header is against the layout or the bounds.
     Broken,
+}
+
+impl HeaderFault {
+    // The refusal's number.
+    pub fn number(&self) -> u32
+        ensures { λ r. ⌜ r ≡ header-fault-number (now (self .entry)) ⌝ }
+    {
+        match self {
+            HeaderFault::Broken => 15,
+        }
+    }
 }
 
 // What a header tells of the run.

@@ -1,6 +1,6 @@
 // Reading a whole run file into tables.
-ghost use Rattle.files.specs.Faults.{Numbered, read-fault-number};
-ghost use Rattle.files.specs.Reading.{has-room, file-read, reading, read-number, header-read, words-after, entries-after, steps-after};
+ghost use Rattle.files.specs.Faults.{Refused-with, read-refusal};
+ghost use Rattle.files.specs.Reading.{has-room, file-read, reading, expected-refusal, header-read, words-after, entries-after, steps-after};
 ghost use Rattle.files.specs.Records.{decode-entry, decode-step};
 ghost use Rattle.files.specs.Sections.{records-of, fault-in};
 ghost use Rattle.files.specs.declared.read.ReadFault.the-variants as of-read;
@@ -79,7 +79,7 @@ pub fn read_run(
     ensures words { λ _. ⌜ now (words .exit) ≡ words-after (reading (now (bytes .entry)) (now (words .entry)) (now (entries .entry)) (now (steps .entry))) (now (words .entry)) ⌝ }
     ensures entries { λ _. ⌜ now (entries .exit) ≡ entries-after (reading (now (bytes .entry)) (now (words .entry)) (now (entries .entry)) (now (steps .entry))) (now (entries .entry)) ⌝ }
     ensures steps { λ _. ⌜ now (steps .exit) ≡ steps-after (reading (now (bytes .entry)) (now (words .entry)) (now (entries .entry)) (now (steps .entry))) (now (steps .entry)) ⌝ }
-    ensures number { λ r. ⌜ Numbered read-fault-number (read-number (now (bytes .entry)) (now (words .entry)) (now (entries .entry)) (now (steps .entry))) r ⌝ }
+    ensures refusal { λ r. ⌜ Refused-with read-refusal (expected-refusal (now (bytes .entry)) (now (words .entry)) (now (entries .entry)) (now (steps .entry))) r ⌝ }
 {
     let file = RunFile::open(bytes)?;
     if !has_room(file.header, words.len(), entries.len(), steps.len()) {

@@ -1,5 +1,5 @@
 // Records of 12 bytes: entries and steps.
-ghost use Rattle.files.specs.Faults.{Numbered, record-fault-number};
+ghost use Rattle.files.specs.Faults.{Refused-with, record-fault-number};
 ghost use Rattle.files.specs.Records.{mark-of, entry-of, step-of, decode-entry, decode-step};
 ghost use mathlib.Core.Path.{_≡_};
 use crate::bytes::number_at;
@@ -12,6 +12,17 @@ use orders::entries::Mark;
 pub enum RecordFault {
     // A field is against the layout.
     Field,
+}
+
+impl RecordFault {
+    // The refusal's number.
+    pub fn number(&self) -> u32
+        ensures { λ r. ⌜ r ≡ record-fault-number (now (self .entry)) ⌝ }
+    {
+        match self {
+            RecordFault::Field => 16,
+        }
+    }
 }
 
 // An entry with the card whose program it belongs to.
@@ -59,7 +70,7 @@ fn entry_of(
 // The entry in a record; one that has not 12 bytes is refused.
 pub fn decode_entry(row: &[u8]) -> Result<CardEntry, RecordFault>
     ensures decoded { λ r. ⌜ r ≡ decode-entry (now (row .entry)) ⌝ }
-    ensures number { λ r. ⌜ Numbered record-fault-number 16 r ⌝ }
+    ensures number { λ r. ⌜ Refused-with record-fault-number 16 r ⌝ }
 {
     let [card, kind, mark, mask, rest @ ..] = row else {
         return Err(RecordFault::Field);
@@ -103,7 +114,7 @@ fn step_of(kind: u8, card: u8, place: u32, word: u32) -> Result<Step, RecordFaul
 // The step in a record; one that has not 12 bytes is refused.
 pub fn decode_step(row: &[u8]) -> Result<Step, RecordFault>
     ensures decoded { λ r. ⌜ r ≡ decode-step (now (row .entry)) ⌝ }
-    ensures number { λ r. ⌜ Numbered record-fault-number 16 r ⌝ }
+    ensures number { λ r. ⌜ Refused-with record-fault-number 16 r ⌝ }
 {
     let [kind, card, 0, 0, rest @ ..] = row else {
         return Err(RecordFault::Field);

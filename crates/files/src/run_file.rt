@@ -1,6 +1,6 @@
 // A run file: a header, initial words, entries and steps.
 ghost use Prim.Native.Nat.{_*_};
-ghost use Rattle.files.specs.Faults.{Numbered, header-fault-number, record-fault-number};
+ghost use Rattle.files.specs.Faults.{Refused-with, header-fault-number, record-fault-number};
 ghost use Rattle.files.specs.Header.{fields-of, header-of};
 ghost use Rattle.files.specs.Records.{entry-at, step-at};
 ghost use Rattle.files.specs.Run.{sound-run, words-section, entries-section, steps-section};
@@ -65,7 +65,7 @@ impl<'a> RunFile<'a> {
     // The n-th entry; past the last it is refused.
     pub fn entry(&self, n: usize) -> Result<CardEntry, RecordFault>
         ensures decoded { λ r. ⌜ r ≡ entry-at (now (now (self .entry) .entries)) n ⌝ }
-        ensures number { λ r. ⌜ Numbered record-fault-number 16 r ⌝ }
+        ensures number { λ r. ⌜ Refused-with record-fault-number 16 r ⌝ }
     {
         record_at(self.entries, n)
     }
@@ -73,7 +73,7 @@ impl<'a> RunFile<'a> {
     // The n-th step; past the last it is refused.
     pub fn step(&self, n: usize) -> Result<Step, RecordFault>
         ensures decoded { λ r. ⌜ r ≡ step-at (now (now (self .entry) .steps)) n ⌝ }
-        ensures number { λ r. ⌜ Numbered record-fault-number 16 r ⌝ }
+        ensures number { λ r. ⌜ Refused-with record-fault-number 16 r ⌝ }
     {
         record_at(self.steps, n)
     }

@@ -32,6 +32,7 @@ pub(crate) trait Record: Copy {
     // What the bytes of a record hold.
     ghost decoded: { List ℕ → Result Self RecordFault };
 
+    // A record has 12 bytes.
     law twelve: { (bs : List ℕ) → (length bs ≡ 12 → ⊥) → decoded bs ≡ Err Field };
 
     fn decode(row: &[u8]) -> Result<Self, RecordFault>

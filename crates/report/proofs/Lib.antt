@@ -1,0 +1,4 @@
+mod Tens
+mod Pages
+mod Prints
+mod Days
