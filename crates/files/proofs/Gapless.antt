@@ -1,14 +1,13 @@
 -- Runs that lie without a gap.
-use Prim.Native.Nat.{ℕ, zero, suc, _+_, _*_, _-_, _≤_, _<_}
+use Prim.Native.Nat.{ℕ, zero, suc, _+_, _-_, _≤_, _<_}
 use mathlib.Core.Bool.{true, false, _&&_}
 use mathlib.Core.List.{List}
 use mathlib.Core.Logic.{⊎-elim}
-use mathlib.Core.Path.{_≡_, refl, sym, subst}
+use mathlib.Core.Path.{_≡_, refl, subst}
 use native.Mathlib.Omega.{arith}
 use lib.Dec.{eqb}
-use lib.ListN.{length, length-take, length-drop}
+use lib.ListN.{length}
 use Rattle.std.proofs.shelf.Tests.{and-parts, eqb-true, eq-eqb, ne-eqb, leb-true, cases-eq}
-use Rattle.files.specs.Bytes.{part}
 use Rattle.files.specs.Day.{gapless, offset-of, length-of, run-count, runs-start, day-fits, count-fits, has-runs-table, sound-day}
 
 -- a run that begins where it has to
@@ -77,7 +76,3 @@ sound bs e =
 -- a run of a sound day lies inside the file
 pub run-inside : (bs : List ℕ) (n : ℕ) → sound-day bs ≡ true → n < run-count bs → offset-of bs n + length-of bs n ≤ length bs
 run-inside bs n e h = ends-inside bs (run-count bs) 0 (runs-start bs) n (sound bs e .runs) (omega arith) (omega arith)
-
--- a part of a sound day is no longer than a day file
-pub part-fits : (bs : List ℕ) (at n : ℕ) → sound-day bs ≡ true → length (part bs at n) ≤ 65536
-part-fits bs at n e = let s = sound bs e in simp (length-take, length-drop) (omega arith)

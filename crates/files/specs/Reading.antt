@@ -65,10 +65,10 @@ abbrev pub expected-refusal : List ℕ → List ℕ → List CardEntry → List 
 expected-refusal bs words entries steps =
     cond (sound-run bs)
     (cond (has-room (header-of bs) (length words) (length entries) (length steps))
-        (record-refusal
-            (fault-in (records-of decode-entry (entries-section bs) (header-of bs .entries)))
-            (fault-in (records-of decode-step (steps-section bs) (header-of bs .steps))))
-        (record { number = 1; layer = 0; place = 0 }))
+    (record-refusal
+    (fault-in (records-of decode-entry (entries-section bs) (header-of bs .entries)))
+    (fault-in (records-of decode-step (steps-section bs) (header-of bs .steps))))
+    (record { number = 1; layer = 0; place = 0 }))
     (record { number = 15; layer = 2; place = 0 })
 
 -- what the call answers

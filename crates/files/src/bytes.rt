@@ -1,5 +1,5 @@
 // Numbers in a file.
-ghost use Prim.Native.Nat.{ℕ, _+_, _≤_};
+ghost use Prim.Native.Nat.{_+_, _≤_};
 ghost use Rattle.files.specs.Bytes.{number-at};
 ghost use lib.ListN.{length};
 ghost use mathlib.Core.Path.{_≡_};

@@ -10,7 +10,7 @@ use std::test::*;
 
 // Line by line: one run, at byte 12, of 108 bytes; its header (one card, one word, sc, one entry, five steps);
 // the initial word 7; load 0; perform 0, 1 and 2; cache 0; perform 3 with the word 7.
-const DAY: &[u8; 120] = b"\x01\0\0\0\x0c\0\0\0\x6c\0\0\0\
+const DAY: [u8; 120] = *b"\x01\0\0\0\x0c\0\0\0\x6c\0\0\0\
     \x01\0\0\0\x01\0\0\0\x01\0\0\0\x01\0\0\0\x24\0\0\0\x05\0\0\0\x30\0\0\0\x20\0\0\0\
     \x07\0\0\0\
     \0\x01\0\0\0\0\0\0\0\0\0\0\
@@ -22,7 +22,7 @@ const DAY: &[u8; 120] = b"\x01\0\0\0\x0c\0\0\0\x6c\0\0\0\
 
 #[test]
 fn sample_day() -> Result<(), Fail> {
-    let day = DayFile::open(DAY).ok().ok_or("the day is refused")?;
+    let day = DayFile::open(&DAY).ok().ok_or("the day is refused")?;
     check_eq(day.count(), 1)?;
     let run = day.run(0).ok_or("the day has no run")?;
     check_eq(run.place, 0)?;

@@ -1,7 +1,7 @@
-use Prim.Native.Nat.{ℕ, _≤_}
-use mathlib.Core.Path.{_≡_, sym, _∙_, ap}
+use Prim.Native.Nat.{ℕ}
+use mathlib.Core.Path.{_≡_, _∙_, ap}
 use native.Mathlib.Omega.{arith}
-use lib.ListN.{length, getD, set}
+use lib.ListN.{getD, set}
 use Rattle.memory.proofs.Tables.{laid-none, laid-more, laid-all}
 use Rattle.files.proofs.Turns.{records-length, record-read}
 use Rattle.files.proofs.sections.records_into.Needs as need

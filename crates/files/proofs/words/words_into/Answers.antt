@@ -1,5 +1,5 @@
-use Prim.Native.Nat.{_/_, _<_, _≤_, min}
-use mathlib.Core.Path.{_≡_, _∙_, ap}
+use Prim.Native.Nat.{_/_, _<_}
+use mathlib.Core.Path.{_∙_, ap}
 use native.Mathlib.Omega.{arith}
 use lib.ListN.{length, set}
 use Rattle.memory.specs.Bytes.{wordsOf}

@@ -1,5 +1,5 @@
 use borrow.Author.Needs.{needs}
-use Rattle.files.proofs.Gapless.{run-inside, part-fits}
+use Rattle.files.proofs.Gapless.{run-inside}
 use Rattle.files.proofs.day.DayFile.run.Needs as need
 
 pub returns-then-end-bytes : need.returns-then-end-bytes
