@@ -123,6 +123,6 @@ abbrev pub audited : List ℕ → Tables → AuditOutcome
 audited bs t =
     cond (sound-run bs)
     (cond (roomy (header-of bs) (length (t .words)) (length (t .cards)) (length (t .code)) (length (t .cells)))
-        (wordsBack (t .words) (fileAudited bs t))
-        (record { answer = result.Err refusal.TooShort; left = t }))
+    (wordsBack (t .words) (fileAudited bs t))
+    (record { answer = result.Err refusal.TooShort; left = t }))
     (record { answer = result.Ok (verdict.No (file.Header Broken)); left = t })

@@ -12,9 +12,17 @@ use run::rows::Cell;
 use run::rows::CodeRow;
 use run::rows::StepRow;
 
-const NO_CARD: CardRecord = CardRecord { entries: 0, length: 0, pending: 0 };
+const NO_CARD: CardRecord = CardRecord {
+    entries: 0,
+    length: 0,
+    pending: 0,
+};
 
-const NO_ROW: CodeRow<u32> = CodeRow { instruction: Instruction::Commit { address: 0 }, entry: 0, performed: true };
+const NO_ROW: CodeRow<u32> = CodeRow {
+    instruction: Instruction::Commit { address: 0 },
+    entry: 0,
+    performed: true,
+};
 
 // The verdict on a run file, by tables of its own.
 pub fn audit_alone(bytes: &[u8]) -> Verdict
@@ -25,7 +33,14 @@ pub fn audit_alone(bytes: &[u8]) -> Verdict
     let mut code = [NO_ROW; 2048];
     let mut cells: [Cell<u32>; 8192] = [Cell::Absent; 8192];
     let mut steps: [StepRow<u32>; 4096] = [StepRow::Unused; 4096];
-    match audit_run(bytes, &mut words, &mut cards, &mut code, &mut cells, &mut steps) {
+    match audit_run(
+        bytes,
+        &mut words,
+        &mut cards,
+        &mut code,
+        &mut cells,
+        &mut steps,
+    ) {
         Ok(verdict) => verdict,
         Err(AuditFault::TooShort) => Verdict::No(FileFault::Header(HeaderFault::Broken)),
     }

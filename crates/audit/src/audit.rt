@@ -36,27 +36,55 @@ fn has_room(header: &Header, words: usize, cards: usize, code: usize, cells: usi
 }
 
 // Works the records over a table of as many words as the run's memory has, and copies the words that they leave.
-fn audit_over(own: &mut [u32], file: &RunFile<'_>, words: &mut [u32], cards: &mut [CardRecord], code: &mut [CodeRow<u32>], cells: &mut [Cell<u32>], steps: &mut [StepRow<u32>]) -> Verdict
+fn audit_over(
+    own: &mut [u32],
+    file: &RunFile<'_>,
+    words: &mut [u32],
+    cards: &mut [CardRecord],
+    code: &mut [CodeRow<u32>],
+    cells: &mut [Cell<u32>],
+    steps: &mut [StepRow<u32>],
+) -> Verdict
     requires own { ⌜ length (now own) ≡ now file .header .size ⌝ ∗ ⌜ length (now (now file .words)) ≡ 4 * now file .header .size ⌝ }
     requires bounds { ⌜ 1 ≤ now file .header .cards ⌝ ∗ ⌜ now file .header .cards ≤ 8 ⌝ ∗ ⌜ 1 ≤ now file .header .size ⌝ ∗ ⌜ now file .header .size ≤ 1024 ⌝ }
     requires room { ⌜ now file .header .cards ≤ length (now cards) ⌝ ∗ ⌜ now file .header .cards * now file .header .size ≤ length (now cells) ⌝ }
     ensures { λ r. ⌜ record { answer = Ok r; left = tables (now (words .exit)) (now (cards .exit)) (now (code .exit)) (now (cells .exit)) (now (steps .exit)) } ≡ wordsBack (now (words .entry)) (recordsAudited (now (file .entry) .header) (now (now (file .entry) .entries)) (now (now (file .entry) .steps)) (tables (wordsOf (now (now (file .entry) .words))) (now (cards .entry)) (now (code .entry)) (now (cells .entry)) (now (steps .entry)))) ⌝ }
 {
     words_into(file.words, own);
-    let Done { memory, verdict } = work_records(WordTable::over(own), cards, code, cells, steps, file);
+    let Done { memory, verdict } = work_records(
+        WordTable::over(own),
+        cards,
+        code,
+        cells,
+        steps,
+        file,
+    );
     copy_words(&memory, words);
     verdict
 }
 
 // Audits a run file. The verdict is a result, and the tables keep what the accepted records made; the first rows of `words` are the run's memory.
-pub fn audit_run(bytes: &[u8], words: &mut [u32], cards: &mut [CardRecord], code: &mut [CodeRow<u32>], cells: &mut [Cell<u32>], steps: &mut [StepRow<u32>]) -> Result<Verdict, AuditFault>
+pub fn audit_run(
+    bytes: &[u8],
+    words: &mut [u32],
+    cards: &mut [CardRecord],
+    code: &mut [CodeRow<u32>],
+    cells: &mut [Cell<u32>],
+    steps: &mut [StepRow<u32>],
+) -> Result<Verdict, AuditFault>
     ensures { λ r. ⌜ record { answer = r; left = tables (now (words .exit)) (now (cards .exit)) (now (code .exit)) (now (cells .exit)) (now (steps .exit)) } ≡ audited (now (bytes .entry)) (tables (now (words .entry)) (now (cards .entry)) (now (code .entry)) (now (cells .entry)) (now (steps .entry))) ⌝ }
 {
     let file = match RunFile::open(bytes) {
         Ok(file) => file,
         Err(fault) => return Ok(Verdict::No(FileFault::Header(fault))),
     };
-    if !has_room(&file.header, words.len(), cards.len(), code.len(), cells.len()) {
+    if !has_room(
+        &file.header,
+        words.len(),
+        cards.len(),
+        code.len(),
+        cells.len(),
+    ) {
         return Err(AuditFault::TooShort);
     }
     let mut own = [0u32; MAX_SIZE];

@@ -19,7 +19,13 @@ use run::rows::CodeRow;
 use run::states::Draft;
 
 // Adds the n-th entry of the file.
-fn take_entry<M: Memory<Word = u32>>(draft: &mut Draft<u32, M, AnyOrder>, cards: &mut [CardRecord], code: &mut [CodeRow<u32>], file: &RunFile<'_>, n: usize) -> Result<(), RowFault>
+fn take_entry<M: Memory<Word = u32>>(
+    draft: &mut Draft<u32, M, AnyOrder>,
+    cards: &mut [CardRecord],
+    code: &mut [CodeRow<u32>],
+    file: &RunFile<'_>,
+    n: usize,
+) -> Result<(), RowFault>
     ensures taken { λ r. ⌜ record { answer = r; after = draftOf meaning (now (draft .exit)) (now (cards .exit)) (now (code .exit)) } ≡ entryOne (now (draft .entry) .order) (now (now (file .entry) .entries)) n (draftOf meaning (now (draft .entry)) (now (cards .entry)) (now (code .entry))) ⌝ }
     ensures same { λ _. ⌜ now (draft .exit) ≡ now (draft .entry) ⌝ }
 {
@@ -29,7 +35,13 @@ fn take_entry<M: Memory<Word = u32>>(draft: &mut Draft<u32, M, AnyOrder>, cards:
 }
 
 // Adds the entries in turn, up to the first that is refused.
-pub(crate) fn take_entries<M: Memory<Word = u32>>(draft: &mut Draft<u32, M, AnyOrder>, cards: &mut [CardRecord], code: &mut [CodeRow<u32>], file: &RunFile<'_>, count: u32) -> Result<(), Stop>
+pub(crate) fn take_entries<M: Memory<Word = u32>>(
+    draft: &mut Draft<u32, M, AnyOrder>,
+    cards: &mut [CardRecord],
+    code: &mut [CodeRow<u32>],
+    file: &RunFile<'_>,
+    count: u32,
+) -> Result<(), Stop>
     ensures worked { λ r. ⌜ record { after = draftOf meaning (now (draft .exit)) (now (cards .exit)) (now (code .exit)); stopped = stopIn r } ≡ worked (entryOne (now (draft .entry) .order) (now (now (file .entry) .entries))) count 0 (draftOf meaning (now (draft .entry)) (now (cards .entry)) (now (code .entry))) ⌝ }
     ensures same { λ _. ⌜ now (draft .exit) ≡ now (draft .entry) ⌝ }
 {

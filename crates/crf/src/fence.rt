@@ -1,6 +1,6 @@
 // A fence between two spans of addresses.
 ghost use mathlib.Core.Path.{_≡_};
-ghost use Rattle.crf.specs.Fences.{row-of, fence-row, star-to, from-star, star-star, at-at};
+ghost use Rattle.crf.specs.Fences.{row, row-of, fence-row, star-to, from-star, star-star, at-at};
 use crate::instruction::FenceKind;
 use crate::instruction::Instruction;
 use crate::span::Span;
@@ -13,32 +13,43 @@ pub struct Fence {
 }
 
 impl Fence {
+    fn between(kind: FenceKind, first: Span, second: Span) -> Fence
+        ensures { λ r. ⌜ row-of r ≡ row kind (first .low) (first .high) (second .low) (second .high) ⌝ }
+    {
+        Fence {
+            kind,
+            first,
+            second,
+        }
+    }
+
     // Between all addresses and `address`.
     pub fn all_to(kind: FenceKind, address: u32) -> Fence
         ensures { λ r. ⌜ row-of r ≡ star-to kind address ⌝ }
     {
-        Fence { kind, first: Span::ALL, second: Span::read(address, address) }
+        Fence::between(kind, Span::ALL, Span::read(address, address))
     }
 
     // Between `address` and all addresses.
     pub fn to_all(kind: FenceKind, address: u32) -> Fence
         ensures { λ r. ⌜ row-of r ≡ from-star kind address ⌝ }
     {
-        Fence { kind, first: Span::read(address, address), second: Span::ALL }
+        Fence::between(kind, Span::read(address, address), Span::ALL)
     }
 
     // Between `address` and itself.
     pub fn own(kind: FenceKind, address: u32) -> Fence
         ensures { λ r. ⌜ row-of r ≡ at-at kind address ⌝ }
     {
-        Fence { kind, first: Span::read(address, address), second: Span::read(address, address) }
+        let own = Span::read(address, address);
+        Fence::between(kind, own, own)
     }
 
     // Between all addresses and all addresses.
     pub fn all(kind: FenceKind) -> Fence
         ensures { λ r. ⌜ row-of r ≡ star-star kind ⌝ }
     {
-        Fence { kind, first: Span::ALL, second: Span::ALL }
+        Fence::between(kind, Span::ALL, Span::ALL)
     }
 
     // The fence as a table row.

@@ -17,7 +17,9 @@ fn main(rt: LibcRuntime) -> Result<(), AnyError> {
     let mut input = Vec::new(rt.alloc());
     rt.stdin().take(INPUT_BYTES).read_to_end(&mut input)?;
     let mut table = [0u8; REPORT_BYTES];
-    let mut kept = HeadingRecord { heading: Heading::Day };
+    let mut kept = HeadingRecord {
+        heading: Heading::Day,
+    };
     let mut text = Text::new(&mut table);
     let _ = report_day(input.as_slice(), &mut kept, &mut text);
     let len = text.len().min(REPORT_BYTES);

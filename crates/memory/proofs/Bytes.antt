@@ -73,9 +73,9 @@ fourBytes-of w h =
     let a : w / 256 / 256 ≡ w / 65536 = div-div-eq-div-mul w 256 256 in
     let b : w / 65536 / 256 ≡ w / 16777216 = div-div-eq-div-mul w 65536 256 in
     joined w (w / 256) (w / 65536) (w / 16777216) (w % 256) (w / 256 % 256) (w / 65536 % 256) (w / 16777216 % 256)
-      (mod-add-div' w 256) (ap (λ t. w / 256 % 256 + t * 256) (sym a) ∙ mod-add-div' (w / 256) 256)
-      (ap (λ t. w / 65536 % 256 + t * 256) (sym b) ∙ mod-add-div' (w / 65536) 256)
-      (mod-eq-of-lt (omega arith))
+    (mod-add-div' w 256) (ap (λ t. w / 256 % 256 + t * 256) (sym a) ∙ mod-add-div' (w / 256) 256)
+    (ap (λ t. w / 65536 % 256 + t * 256) (sym b) ∙ mod-add-div' (w / 65536) 256)
+    (mod-eq-of-lt (omega arith))
 
 pub bytes-write : (bs : List ℕ) (i w : ℕ) → i < length bs / 4 → w < 4294967296 → wordsOf (wordPut bs (4 * i) w) ≡ set (wordsOf bs) i w
 bytes-write bs i w h l =
@@ -95,5 +95,5 @@ table-out bs i w h =
     let n = shown-length (wordsOf bs) in
     let m = length-wordsOf bs in
     cond-both (ltb i 65536 && ltb (4 * i + 3) (length bs)) (wordPut bs (4 * i) w) bs (λ r. bs ≡ r)
-      (λ t. let p = and-parts (ltb i 65536) (ltb (4 * i + 3) (length bs)) t in absurd (omega (arith, ltb-true i 65536 (p .0), ltb-true (4 * i + 3) (length bs) (p .1))))
-      (λ f. refl)
+    (λ t. let p = and-parts (ltb i 65536) (ltb (4 * i + 3) (length bs)) t in absurd (omega (arith, ltb-true i 65536 (p .0), ltb-true (4 * i + 3) (length bs) (p .1))))
+    (λ f. refl)

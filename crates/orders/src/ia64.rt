@@ -36,11 +36,29 @@ pub impl MemoryOrder for Ia64 as Ia64Order {
         ensures { λ r. ⌜ rows r ≡ ia-before shape ⌝ }
     {
         match shape {
-            Shape::Access(Access { op: Op::Load, mark: Mark::Release, address }) => {
-                Fences::Two(Fence::all_to(FenceKind::Rr, address), Fence::all_to(FenceKind::Wr, address))
+            Shape::Access(
+                Access {
+                    op: Op::Load,
+                    mark: Mark::Release,
+                    address,
+                },
+            ) => {
+                Fences::Two(
+                    Fence::all_to(FenceKind::Rr, address),
+                    Fence::all_to(FenceKind::Wr, address),
+                )
             }
-            Shape::Access(Access { op: Op::Store, mark: Mark::Release, address }) => {
-                Fences::Two(Fence::all_to(FenceKind::Rw, address), Fence::all_to(FenceKind::Ww, address))
+            Shape::Access(
+                Access {
+                    op: Op::Store,
+                    mark: Mark::Release,
+                    address,
+                },
+            ) => {
+                Fences::Two(
+                    Fence::all_to(FenceKind::Rw, address),
+                    Fence::all_to(FenceKind::Ww, address),
+                )
             }
             Shape::Access(_) => Fences::Zero,
             Shape::Barrier(mask) => Fences::of_mask(mask),
@@ -51,11 +69,29 @@ pub impl MemoryOrder for Ia64 as Ia64Order {
         ensures { λ r. ⌜ rows r ≡ ia-after shape ⌝ }
     {
         match shape {
-            Shape::Access(Access { op: Op::Load, mark: Mark::Acquire, address }) => {
-                Fences::Two(Fence::to_all(FenceKind::Rr, address), Fence::to_all(FenceKind::Rw, address))
+            Shape::Access(
+                Access {
+                    op: Op::Load,
+                    mark: Mark::Acquire,
+                    address,
+                },
+            ) => {
+                Fences::Two(
+                    Fence::to_all(FenceKind::Rr, address),
+                    Fence::to_all(FenceKind::Rw, address),
+                )
             }
-            Shape::Access(Access { op: Op::Store, mark: Mark::Acquire, address }) => {
-                Fences::Two(Fence::to_all(FenceKind::Wr, address), Fence::to_all(FenceKind::Ww, address))
+            Shape::Access(
+                Access {
+                    op: Op::Store,
+                    mark: Mark::Acquire,
+                    address,
+                },
+            ) => {
+                Fences::Two(
+                    Fence::to_all(FenceKind::Wr, address),
+                    Fence::to_all(FenceKind::Ww, address),
+                )
             }
             _ => Fences::Zero,
         }

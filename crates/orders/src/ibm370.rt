@@ -1,5 +1,6 @@
 // The order of the IBM 370: that of tso, and a load does not pass an earlier store of its own addressess.
 ghost use Rattle.orders.specs.Tables.{ibm-takes, ibm-before, no-fences, ibm-keeps};
+ghost use mathlib.Core.List.{[]};
 ghost use mathlib.Core.Path.{_≡_};
 ghost use Rattle.orders.specs.Fences.{rows};
 use crate::entries::Access;
@@ -27,7 +28,13 @@ pub impl MemoryOrder for Ibm370 as Ibm370Order {
         ensures { λ r. ⌜ r ≡ ibm-takes shape ⌝ }
     {
         match shape {
-            Shape::Access(Access { op: _, mark: Mark::Plain, address: _ }) => true,
+            Shape::Access(
+                Access {
+                    op: _,
+                    mark: Mark::Plain,
+                    address: _,
+                },
+            ) => true,
             Shape::Access(_) => false,
             Shape::Barrier(mask) => mask == 4,
         }
@@ -37,20 +44,37 @@ pub impl MemoryOrder for Ibm370 as Ibm370Order {
         ensures { λ r. ⌜ rows r ≡ ibm-before shape ⌝ }
     {
         match shape {
-            Shape::Access(Access { op: Op::Load, mark: _, address }) => {
-                Fences::Two(Fence::own(FenceKind::Wr, address), Fence::all_to(FenceKind::Rr, address))
+            Shape::Access(
+                Access {
+                    op: Op::Load,
+                    mark: _,
+                    address,
+                },
+            ) => {
+                Fences::Two(
+                    Fence::own(FenceKind::Wr, address),
+                    Fence::all_to(FenceKind::Rr, address),
+                )
             },
-            Shape::Access(Access { op: Op::Store, mark: _, address }) => {
-                Fences::Two(Fence::all_to(FenceKind::Rw, address), Fence::all_to(FenceKind::Ww, address))
+            Shape::Access(
+                Access {
+                    op: Op::Store,
+                    mark: _,
+                    address,
+                },
+            ) => {
+                Fences::Two(
+                    Fence::all_to(FenceKind::Rw, address),
+                    Fence::all_to(FenceKind::Ww, address),
+                )
             },
             Shape::Barrier(mask) => Fences::of_mask(mask),
         }
     }
 
-    fn after(&self, shape: Shape) -> Fences
-        ensures { λ r. ⌜ rows r ≡ no-fences shape ⌝ }
+    fn after(&self, _shape: Shape) -> Fences
+        ensures { λ r. ⌜ rows r ≡ [] ⌝ }
     {
-        let _ = shape;
         Fences::Zero
     }
 }

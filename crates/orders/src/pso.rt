@@ -1,5 +1,6 @@
 // Partial store order: later accesses may pass an earlier store, unless a barrier stands between.
 ghost use Rattle.orders.specs.Tables.{pso-takes, pso-before, no-fences, pso-keeps};
+ghost use mathlib.Core.List.{[]};
 ghost use mathlib.Core.Path.{_≡_};
 ghost use Rattle.orders.specs.Fences.{rows};
 use crate::entries::Access;
@@ -27,7 +28,13 @@ pub impl MemoryOrder for Pso as PsoOrder {
         ensures { λ r. ⌜ r ≡ pso-takes shape ⌝ }
     {
         match shape {
-            Shape::Access(Access { op: _, mark: Mark::Plain, address: _ }) => true,
+            Shape::Access(
+                Access {
+                    op: _,
+                    mark: Mark::Plain,
+                    address: _,
+                },
+            ) => true,
             Shape::Access(_) => false,
             Shape::Barrier(mask) => mask == 12,
         }
@@ -37,16 +44,27 @@ pub impl MemoryOrder for Pso as PsoOrder {
         ensures { λ r. ⌜ rows r ≡ pso-before shape ⌝ }
     {
         match shape {
-            Shape::Access(Access { op: Op::Load, mark: _, address }) => Fences::One(Fence::all_to(FenceKind::Rr, address)),
-            Shape::Access(Access { op: Op::Store, mark: _, address }) => Fences::One(Fence::all_to(FenceKind::Rw, address)),
+            Shape::Access(
+                Access {
+                    op: Op::Load,
+                    mark: _,
+                    address,
+                },
+            ) => Fences::One(Fence::all_to(FenceKind::Rr, address)),
+            Shape::Access(
+                Access {
+                    op: Op::Store,
+                    mark: _,
+                    address,
+                },
+            ) => Fences::One(Fence::all_to(FenceKind::Rw, address)),
             Shape::Barrier(mask) => Fences::of_mask(mask),
         }
     }
 
-    fn after(&self, shape: Shape) -> Fences
-        ensures { λ r. ⌜ rows r ≡ no-fences shape ⌝ }
+    fn after(&self, _shape: Shape) -> Fences
+        ensures { λ r. ⌜ rows r ≡ [] ⌝ }
     {
-        let _ = shape;
         Fences::Zero
     }
 }

@@ -1,5 +1,6 @@
 // Relaxed memory order: only barriers keep pairs.
 ghost use Rattle.orders.specs.Tables.{rmo-takes, rmo-before, no-fences, rmo-keeps};
+ghost use mathlib.Core.List.{[]};
 ghost use mathlib.Core.Path.{_≡_};
 ghost use Rattle.orders.specs.Fences.{rows};
 use crate::entries::Access;
@@ -24,7 +25,13 @@ pub impl MemoryOrder for Rmo as RmoOrder {
         ensures { λ r. ⌜ r ≡ rmo-takes shape ⌝ }
     {
         match shape {
-            Shape::Access(Access { op: _, mark: Mark::Plain, address: _ }) => true,
+            Shape::Access(
+                Access {
+                    op: _,
+                    mark: Mark::Plain,
+                    address: _,
+                },
+            ) => true,
             Shape::Access(_) => false,
             Shape::Barrier(mask) => 1 <= mask && mask <= 15,
         }
@@ -39,10 +46,9 @@ pub impl MemoryOrder for Rmo as RmoOrder {
         }
     }
 
-    fn after(&self, shape: Shape) -> Fences
-        ensures { λ r. ⌜ rows r ≡ no-fences shape ⌝ }
+    fn after(&self, _shape: Shape) -> Fences
+        ensures { λ r. ⌜ rows r ≡ [] ⌝ }
     {
-        let _ = shape;
         Fences::Zero
     }
 }

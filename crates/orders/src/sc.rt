@@ -1,5 +1,6 @@
 // Sequential consistency: keeps every pair.
 ghost use Rattle.orders.specs.Tables.{sc-takes, sc-before, no-fences, sc-keeps};
+ghost use mathlib.Core.List.{[]};
 ghost use mathlib.Core.Path.{_≡_};
 ghost use Rattle.orders.specs.Fences.{rows};
 use crate::entries::Access;
@@ -27,7 +28,13 @@ pub impl MemoryOrder for Sc as ScOrder {
         ensures { λ r. ⌜ r ≡ sc-takes shape ⌝ }
     {
         match shape {
-            Shape::Access(Access { op: _, mark: Mark::Plain, address: _ }) => true,
+            Shape::Access(
+                Access {
+                    op: _,
+                    mark: Mark::Plain,
+                    address: _,
+                },
+            ) => true,
             _ => false,
         }
     }
@@ -36,20 +43,37 @@ pub impl MemoryOrder for Sc as ScOrder {
         ensures { λ r. ⌜ rows r ≡ sc-before shape ⌝ }
     {
         match shape {
-            Shape::Access(Access { op: Op::Load, mark: _, address }) => {
-                Fences::Two(Fence::all_to(FenceKind::Rr, address), Fence::all_to(FenceKind::Wr, address))
+            Shape::Access(
+                Access {
+                    op: Op::Load,
+                    mark: _,
+                    address,
+                },
+            ) => {
+                Fences::Two(
+                    Fence::all_to(FenceKind::Rr, address),
+                    Fence::all_to(FenceKind::Wr, address),
+                )
             }
-            Shape::Access(Access { op: Op::Store, mark: _, address }) => {
-                Fences::Two(Fence::all_to(FenceKind::Rw, address), Fence::all_to(FenceKind::Ww, address))
+            Shape::Access(
+                Access {
+                    op: Op::Store,
+                    mark: _,
+                    address,
+                },
+            ) => {
+                Fences::Two(
+                    Fence::all_to(FenceKind::Rw, address),
+                    Fence::all_to(FenceKind::Ww, address),
+                )
             }
             Shape::Barrier(mask) => Fences::of_mask(mask),
         }
     }
 
-    fn after(&self, shape: Shape) -> Fences
-        ensures { λ r. ⌜ rows r ≡ no-fences shape ⌝ }
+    fn after(&self, _shape: Shape) -> Fences
+        ensures { λ r. ⌜ rows r ≡ [] ⌝ }
     {
-        let _ = shape;
         Fences::Zero
     }
 }

@@ -34,8 +34,16 @@ impl<W: Copy> Entry<W> {
         ensures { λ r. ⌜ r ≡ shape-of (now (self .entry)) ⌝ }
     {
         match self {
-            Entry::Load { mark, address } => Shape::Access(Access { op: Op::Load, mark: *mark, address: *address }),
-            Entry::Store { mark, address, .. } => Shape::Access(Access { op: Op::Store, mark: *mark, address: *address }),
+            Entry::Load { mark, address } => Shape::Access(Access {
+                op: Op::Load,
+                mark: *mark,
+                address: *address,
+            }),
+            Entry::Store { mark, address, .. } => Shape::Access(Access {
+                op: Op::Store,
+                mark: *mark,
+                address: *address,
+            }),
             Entry::Barrier { mask } => Shape::Barrier(*mask),
         }
     }
@@ -56,10 +64,29 @@ impl<W: Copy> Entry<W> {
         ensures { λ r. ⌜ r ≡ nth (core (now (self .entry))) k ⌝ }
     {
         match (self, k) {
-            (Entry::Load { mark: _, address }, 0) => Some(Instruction::Reconcile { address: *address }),
+            (Entry::Load { mark: _, address }, 0) => Some(Instruction::Reconcile {
+                address: *address,
+            }),
             (Entry::Load { mark: _, address }, 1) => Some(Instruction::Loadl { address: *address }),
-            (Entry::Store { mark: _, address, word }, 0) => Some(Instruction::Storel { address: *address, word: *word }),
-            (Entry::Store { mark: _, address, word: _ }, 1) => Some(Instruction::Commit { address: *address }),
+            (
+                Entry::Store {
+                    mark: _,
+                    address,
+                    word,
+                },
+                0,
+            ) => Some(Instruction::Storel {
+                address: *address,
+                word: *word,
+            }),
+            (
+                Entry::Store {
+                    mark: _,
+                    address,
+                    word: _,
+                },
+                1,
+            ) => Some(Instruction::Commit { address: *address }),
             _ => None,
         }
     }
@@ -100,12 +127,19 @@ impl<W: Copy> Translation<W> {
 }
 
 // The entry's instructions under a memory order that takes it.
-pub fn translate<W: Copy, O: MemoryOrder>(order: &O, entry: Entry<W>) -> Result<Translation<W>, TranslationFault>
+pub fn translate<W: Copy, O: MemoryOrder>(
+    order: &O,
+    entry: Entry<W>,
+) -> Result<Translation<W>, TranslationFault>
     ensures { λ r. ⌜ Translates (taken (now (order .entry)) (shape-of entry)) (translated (ahead (now (order .entry))) (behind (now (order .entry))) entry) r ⌝ }
 {
     let shape = entry.shape();
     if !order.takes(shape) {
         return Err(TranslationFault::NotTaken);
     }
-    Ok(Translation { before: order.before(shape), entry, after: order.after(shape) })
+    Ok(Translation {
+        before: order.before(shape),
+        entry,
+        after: order.after(shape),
+    })
 }

@@ -24,7 +24,7 @@ nth-inside (y ∷ ys) zero h e = let z : _≡_ {A = ℕ} 0 1 = cc in omega arith
 nth-inside (y ∷ ys) (suc k) h e = nth-inside ys k (omega arith) e
 
 pub laid-next : {W : Type 0} (code after : List (CodeRow W)) (at n k : ℕ) (is : List (Instruction W)) (o : Option (Instruction W)) → k < length is → o ≡ nth is k → after ≡ laidOne code (at + k) n o
-  → laid after (at + (k + 1)) (pendingRows n (drop (k + 1) is)) ≡ laid code (at + k) (pendingRows n (drop k is))
+    → laid after (at + (k + 1)) (pendingRows n (drop (k + 1) is)) ≡ laid code (at + k) (pendingRows n (drop k is))
 laid-next code after at n k is None h e f = absurd (nth-inside is k h e)
 laid-next {W} code after at n k is (Some i) h e f =
     let d : drop k is ≡ i ∷ drop (suc k) is = drop-nth is k i e in

@@ -40,7 +40,11 @@ fn is_near<W: Word>(size: u32, entry: Entry<W>) -> bool
 {
     match entry {
         Entry::Load { mark: _, address } => address < size,
-        Entry::Store { mark: _, address, word: _ } => address < size,
+        Entry::Store {
+            mark: _,
+            address,
+            word: _,
+        } => address < size,
         Entry::Barrier { .. } => true,
     }
 }
@@ -66,7 +70,12 @@ fn has_room(held: CardRecord, n: usize) -> bool
 }
 
 // The entry's place in the card's program, if the order takes it and there is room.
-fn place_for<W: Word, O: MemoryOrder>(order: &O, size: u32, held: CardRecord, entry: Entry<W>) -> Result<Place<W>, ProgramFault>
+fn place_for<W: Word, O: MemoryOrder>(
+    order: &O,
+    size: u32,
+    held: CardRecord,
+    entry: Entry<W>,
+) -> Result<Place<W>, ProgramFault>
     ensures { λ r. ⌜ Cases r (λ p. (Ok held ≡ placed (taken (now (order .entry))) (ahead (now (order .entry))) (behind (now (order .entry))) size held entry) × (p .held ≡ held) × (instructions (p .translation) ≡ translated (ahead (now (order .entry))) (behind (now (order .entry))) entry)) (λ e. Err e ≡ placed (taken (now (order .entry))) (ahead (now (order .entry))) (behind (now (order .entry))) size held entry) ⌝ }
 {
     if !is_near(size, entry) {
@@ -80,21 +89,42 @@ fn place_for<W: Word, O: MemoryOrder>(order: &O, size: u32, held: CardRecord, en
 }
 
 // The raw instruction's place in the card's program: behind its last one.
-fn raw_place_for<W: Word>(size: u32, held: CardRecord, instruction: Instruction<W>) -> Result<CardRecord, ProgramFault>
+fn raw_place_for<W: Word>(
+    size: u32,
+    held: CardRecord,
+    instruction: Instruction<W>,
+) -> Result<CardRecord, ProgramFault>
     ensures is { λ r. ⌜ r ≡ rawPlaced size held instruction ⌝ }
     ensures known { λ r. ⌜ made r (λ h. h .length < 256) ⌝ }
 {
     if !is_inside(size, instruction) {
         return Err(ProgramFault::NoSuchAddress);
     }
-    if held.length < 256 { Ok(held) } else { Err(ProgramFault::NoPlace) }
+    if held.length < 256 {
+        Ok(held)
+    } else {
+        Err(ProgramFault::NoPlace)
+    }
 }
 
-fn lay_one<W: Word>(code: &mut [CodeRow<W>], at: usize, number: u32, instruction: Option<Instruction<W>>)
+fn lay_one<W: Word>(
+    code: &mut [CodeRow<W>],
+    at: usize,
+    number: u32,
+    instruction: Option<Instruction<W>>,
+)
     ensures { λ _. ⌜ now (code .exit) ≡ laidOne (now (code .entry)) at number instruction ⌝ }
 {
     if let Some(instruction) = instruction {
-        put(code, at, CodeRow { instruction, entry: number, performed: false });
+        put(
+            code,
+            at,
+            CodeRow {
+                instruction,
+                entry: number,
+                performed: false,
+            },
+        );
     }
 }
 
@@ -115,13 +145,23 @@ fn enter<W: Word>(cards: &mut [CardRecord], code: &mut [CodeRow<W>], card: u32, 
     ensures code { λ _. ⌜ now (code .exit) ≡ laid (now (code .entry)) (256 * card + min (place .held .length) 256) (pendingRows (place .held .entries) (instructions (place .translation))) ⌝ }
 {
     let held = place.held;
-    lay(code, 256 * card as usize + held.length.min(256) as usize, held.entries, &place.translation);
+    lay(
+        code,
+        256 * card as usize + held.length.min(256) as usize,
+        held.entries,
+        &place.translation,
+    );
     grow_at(cards, card as usize, 1, place.translation.count() as u32);
 }
 
 impl<W: Word, M: Memory<Word = W>, O: MemoryOrder> Draft<W, M, O> {
     // The card's record, if the tables can hold the programs and there is such a card.
-    fn card_held(&self, cards: &[CardRecord], code: &[CodeRow<W>], card: u32) -> Result<CardRecord, ProgramFault>
+    fn card_held(
+        &self,
+        cards: &[CardRecord],
+        code: &[CodeRow<W>],
+        card: u32,
+    ) -> Result<CardRecord, ProgramFault>
         ensures is { λ r. ⌜ r ≡ cardHeld (draftOf meaning (now (self .entry)) (now (cards .entry)) (now (code .entry))) card ⌝ }
         ensures known { λ r. ⌜ made r (λ _. card < 8) ⌝ }
     {
@@ -134,7 +174,13 @@ impl<W: Word, M: Memory<Word = W>, O: MemoryOrder> Draft<W, M, O> {
         Ok(cards[card as usize])
     }
 
-    fn may_add(&self, cards: &[CardRecord], code: &[CodeRow<W>], card: u32, entry: Entry<W>) -> Result<Place<W>, ProgramFault>
+    fn may_add(
+        &self,
+        cards: &[CardRecord],
+        code: &[CodeRow<W>],
+        card: u32,
+        entry: Entry<W>,
+    ) -> Result<Place<W>, ProgramFault>
         ensures is { λ r. ⌜ Cases r (λ p. (Ok (p .held) ≡ addable (taken (now (self .entry) .order)) (ahead (now (self .entry) .order)) (behind (now (self .entry) .order)) (draftOf meaning (now (self .entry)) (now (cards .entry)) (now (code .entry))) card entry) × (instructions (p .translation) ≡ translated (ahead (now (self .entry) .order)) (behind (now (self .entry) .order)) entry)) (λ e. Err e ≡ addable (taken (now (self .entry) .order)) (ahead (now (self .entry) .order)) (behind (now (self .entry) .order)) (draftOf meaning (now (self .entry)) (now (cards .entry)) (now (code .entry))) card entry) ⌝ }
         ensures known { λ r. ⌜ made r (λ _. card < 8) ⌝ }
     {
@@ -145,7 +191,13 @@ impl<W: Word, M: Memory<Word = W>, O: MemoryOrder> Draft<W, M, O> {
     }
 
     // Adds an entry to a card's program.
-    pub fn add(&mut self, cards: &mut [CardRecord], code: &mut [CodeRow<W>], card: u32, entry: Entry<W>) -> Result<(), ProgramFault>
+    pub fn add(
+        &mut self,
+        cards: &mut [CardRecord],
+        code: &mut [CodeRow<W>],
+        card: u32,
+        entry: Entry<W>,
+    ) -> Result<(), ProgramFault>
         ensures draft { λ r. ⌜ record { answer = r; after = draftOf meaning (now (self .exit)) (now (cards .exit)) (now (code .exit)) } ≡ added (taken (now (self .entry) .order)) (ahead (now (self .entry) .order)) (behind (now (self .entry) .order)) (draftOf meaning (now (self .entry)) (now (cards .entry)) (now (code .entry))) card entry ⌝ }
         ensures same { λ _. ⌜ now (self .exit) ≡ now (self .entry) ⌝ }
     {
@@ -158,7 +210,13 @@ impl<W: Word, M: Memory<Word = W>, O: MemoryOrder> Draft<W, M, O> {
         }
     }
 
-    fn may_add_raw(&self, cards: &[CardRecord], code: &[CodeRow<W>], card: u32, instruction: Instruction<W>) -> Result<CardRecord, ProgramFault>
+    fn may_add_raw(
+        &self,
+        cards: &[CardRecord],
+        code: &[CodeRow<W>],
+        card: u32,
+        instruction: Instruction<W>,
+    ) -> Result<CardRecord, ProgramFault>
         ensures is { λ r. ⌜ r ≡ rawAddable (draftOf meaning (now (self .entry)) (now (cards .entry)) (now (code .entry))) card instruction ⌝ }
         ensures known { λ r. ⌜ made r (λ h. (card < 8) × (h .length < 256)) ⌝ }
     {
@@ -169,7 +227,13 @@ impl<W: Word, M: Memory<Word = W>, O: MemoryOrder> Draft<W, M, O> {
     }
 
     // Adds an instruction that is of no entry. A run with one has no order.
-    pub fn add_raw(&mut self, cards: &mut [CardRecord], code: &mut [CodeRow<W>], card: u32, instruction: Instruction<W>) -> Result<(), ProgramFault>
+    pub fn add_raw(
+        &mut self,
+        cards: &mut [CardRecord],
+        code: &mut [CodeRow<W>],
+        card: u32,
+        instruction: Instruction<W>,
+    ) -> Result<(), ProgramFault>
         ensures draft { λ r. ⌜ record { answer = r; after = draftOf meaning (now (self .exit)) (now (cards .exit)) (now (code .exit)) } ≡ rawAdded (draftOf meaning (now (self .entry)) (now (cards .entry)) (now (code .entry))) card instruction ⌝ }
         ensures memory { λ _. ⌜ now (self .exit) .memory ≡ now (self .entry) .memory ⌝ }
         ensures order { λ _. ⌜ now (self .exit) .order ≡ now (self .entry) .order ⌝ }
@@ -177,7 +241,15 @@ impl<W: Word, M: Memory<Word = W>, O: MemoryOrder> Draft<W, M, O> {
         match self.may_add_raw(cards, code, card, instruction) {
             Err(why) => Err(why),
             Ok(held) => {
-                put(code, 256 * card as usize + held.length as usize, CodeRow { instruction, entry: held.entries, performed: false });
+                put(
+                    code,
+                    256 * card as usize + held.length as usize,
+                    CodeRow {
+                        instruction,
+                        entry: held.entries,
+                        performed: false,
+                    },
+                );
                 grow_at(cards, card as usize, 0, 1);
                 self.raw = true;
                 Ok(())

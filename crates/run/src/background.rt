@@ -24,7 +24,15 @@ fn place(size: u32, card: u32, address: u32) -> usize
 
 impl<W: Word, M: Memory<Word = W>> Running<W, M> {
     // The cell of a card's address, if there is one.
-    fn reach(&self, cards: &[CardRecord], code: &[CodeRow<W>], cells: &[Cell<W>], steps: &[StepRow<W>], card: u32, address: u32) -> Result<Cell<W>, StepFault>
+    fn reach(
+        &self,
+        cards: &[CardRecord],
+        code: &[CodeRow<W>],
+        cells: &[Cell<W>],
+        steps: &[StepRow<W>],
+        card: u32,
+        address: u32,
+    ) -> Result<Cell<W>, StepFault>
         ensures is { λ r. ⌜ r ≡ reached (worldOf meaning (now (self .entry)) (now (cards .entry)) (now (code .entry)) (now (cells .entry)) (now (steps .entry))) card address ⌝ }
         ensures known { λ r. ⌜ made r (λ _. (card < 8) × (address < length (meaning (now (self .entry) .memory)))) ⌝ }
     {
@@ -34,7 +42,15 @@ impl<W: Word, M: Memory<Word = W>> Running<W, M> {
         }
     }
 
-    fn may_cache(&self, cards: &[CardRecord], code: &[CodeRow<W>], cells: &[Cell<W>], steps: &[StepRow<W>], card: u32, address: u32) -> Result<W, StepFault>
+    fn may_cache(
+        &self,
+        cards: &[CardRecord],
+        code: &[CodeRow<W>],
+        cells: &[Cell<W>],
+        steps: &[StepRow<W>],
+        card: u32,
+        address: u32,
+    ) -> Result<W, StepFault>
         ensures is { λ r. ⌜ r ≡ cacheable (worldOf meaning (now (self .entry)) (now (cards .entry)) (now (code .entry)) (now (cells .entry)) (now (steps .entry))) card address ⌝ }
         ensures known { λ r. ⌜ made r (λ _. (card < 8) × (now (self .entry) .used < 4096)) ⌝ }
     {
@@ -44,7 +60,15 @@ impl<W: Word, M: Memory<Word = W>> Running<W, M> {
         }
     }
 
-    fn may_write(&self, cards: &[CardRecord], code: &[CodeRow<W>], cells: &[Cell<W>], steps: &[StepRow<W>], card: u32, address: u32) -> Result<W, StepFault>
+    fn may_write(
+        &self,
+        cards: &[CardRecord],
+        code: &[CodeRow<W>],
+        cells: &[Cell<W>],
+        steps: &[StepRow<W>],
+        card: u32,
+        address: u32,
+    ) -> Result<W, StepFault>
         ensures is { λ r. ⌜ r ≡ writable (worldOf meaning (now (self .entry)) (now (cards .entry)) (now (code .entry)) (now (cells .entry)) (now (steps .entry))) card address ⌝ }
         ensures known { λ r. ⌜ made r (λ _. (card < 8) × (address < length (meaning (now (self .entry) .memory))) × (now (self .entry) .used < 4096)) ⌝ }
     {
@@ -54,7 +78,15 @@ impl<W: Word, M: Memory<Word = W>> Running<W, M> {
         }
     }
 
-    fn may_purge(&self, cards: &[CardRecord], code: &[CodeRow<W>], cells: &[Cell<W>], steps: &[StepRow<W>], card: u32, address: u32) -> Result<(), StepFault>
+    fn may_purge(
+        &self,
+        cards: &[CardRecord],
+        code: &[CodeRow<W>],
+        cells: &[Cell<W>],
+        steps: &[StepRow<W>],
+        card: u32,
+        address: u32,
+    ) -> Result<(), StepFault>
         ensures is { λ r. ⌜ r ≡ purgeable (worldOf meaning (now (self .entry)) (now (cards .entry)) (now (code .entry)) (now (cells .entry)) (now (steps .entry))) card address ⌝ }
         ensures known { λ r. ⌜ made r (λ _. (card < 8) × (now (self .entry) .used < 4096)) ⌝ }
     {
@@ -78,14 +110,26 @@ impl<W: Word, M: Memory<Word = W>> Running<W, M> {
     }
 
     // Copies a word of the memory into an absent cell, which is then clean.
-    pub fn cache(&mut self, cards: &mut [CardRecord], code: &mut [CodeRow<W>], cells: &mut [Cell<W>], steps: &mut [StepRow<W>], card: u32, address: u32) -> Result<(), StepFault>
+    pub fn cache(
+        &mut self,
+        cards: &mut [CardRecord],
+        code: &mut [CodeRow<W>],
+        cells: &mut [Cell<W>],
+        steps: &mut [StepRow<W>],
+        card: u32,
+        address: u32,
+    ) -> Result<(), StepFault>
         ensures world { λ r. ⌜ record { answer = r; after = worldOf meaning (now (self .exit)) (now (cards .exit)) (now (code .exit)) (now (cells .exit)) (now (steps .exit)) } ≡ cached (worldOf meaning (now (self .entry)) (now (cards .entry)) (now (code .entry)) (now (cells .entry)) (now (steps .entry))) card address ⌝ }
         ensures same { λ _. ⌜ now (self .exit) .memory ≡ now (self .entry) .memory ⌝ }
     {
         match self.may_cache(cards, code, cells, steps, card, address) {
             Err(why) => Err(why),
             Ok(word) => {
-                put(cells, place(self.memory.size(), card, address), Cell::Clean(word));
+                put(
+                    cells,
+                    place(self.memory.size(), card, address),
+                    Cell::Clean(word),
+                );
                 self.note(steps, StepRow::Cached { card, address });
                 Ok(())
             }
@@ -93,7 +137,15 @@ impl<W: Word, M: Memory<Word = W>> Running<W, M> {
     }
 
     // Writes a dirty cell's word to the memory; the cell is then clean.
-    pub fn write_back(&mut self, cards: &mut [CardRecord], code: &mut [CodeRow<W>], cells: &mut [Cell<W>], steps: &mut [StepRow<W>], card: u32, address: u32) -> Result<(), StepFault>
+    pub fn write_back(
+        &mut self,
+        cards: &mut [CardRecord],
+        code: &mut [CodeRow<W>],
+        cells: &mut [Cell<W>],
+        steps: &mut [StepRow<W>],
+        card: u32,
+        address: u32,
+    ) -> Result<(), StepFault>
         ensures world { λ r. ⌜ record { answer = r; after = worldOf meaning (now (self .exit)) (now (cards .exit)) (now (code .exit)) (now (cells .exit)) (now (steps .exit)) } ≡ writtenBack (worldOf meaning (now (self .entry)) (now (cards .entry)) (now (code .entry)) (now (cells .entry)) (now (steps .entry))) card address ⌝ }
         ensures fixed { λ _. ⌜ fixed (now (self .exit) .memory) ≡ fixed (now (self .entry) .memory) ⌝ }
     {
@@ -101,7 +153,11 @@ impl<W: Word, M: Memory<Word = W>> Running<W, M> {
             Err(why) => Err(why),
             Ok(word) => {
                 self.memory.write(address, word)?;
-                put(cells, place(self.memory.size(), card, address), Cell::Clean(word));
+                put(
+                    cells,
+                    place(self.memory.size(), card, address),
+                    Cell::Clean(word),
+                );
                 self.note(steps, StepRow::WrittenBack { card, address });
                 Ok(())
             }
@@ -109,14 +165,26 @@ impl<W: Word, M: Memory<Word = W>> Running<W, M> {
     }
 
     // Drops a clean cell's copy; the cell is then absent.
-    pub fn purge(&mut self, cards: &mut [CardRecord], code: &mut [CodeRow<W>], cells: &mut [Cell<W>], steps: &mut [StepRow<W>], card: u32, address: u32) -> Result<(), StepFault>
+    pub fn purge(
+        &mut self,
+        cards: &mut [CardRecord],
+        code: &mut [CodeRow<W>],
+        cells: &mut [Cell<W>],
+        steps: &mut [StepRow<W>],
+        card: u32,
+        address: u32,
+    ) -> Result<(), StepFault>
         ensures world { λ r. ⌜ record { answer = r; after = worldOf meaning (now (self .exit)) (now (cards .exit)) (now (code .exit)) (now (cells .exit)) (now (steps .exit)) } ≡ purged (worldOf meaning (now (self .entry)) (now (cards .entry)) (now (code .entry)) (now (cells .entry)) (now (steps .entry))) card address ⌝ }
         ensures same { λ _. ⌜ now (self .exit) .memory ≡ now (self .entry) .memory ⌝ }
     {
         match self.may_purge(cards, code, cells, steps, card, address) {
             Err(why) => Err(why),
             Ok(()) => {
-                put(cells, place(self.memory.size(), card, address), Cell::Absent);
+                put(
+                    cells,
+                    place(self.memory.size(), card, address),
+                    Cell::Absent,
+                );
                 self.note(steps, StepRow::Purged { card, address });
                 Ok(())
             }

@@ -32,19 +32,32 @@ pub(crate) struct Plan<W> {
 }
 
 // Whether the tables can hold a run of that many cards and words.
-pub(crate) fn fits(count: u32, size: u32, cards: usize, code: usize, cells: usize) -> Result<(), StepFault>
+pub(crate) fn fits(
+    count: u32,
+    size: u32,
+    cards: usize,
+    code: usize,
+    cells: usize,
+) -> Result<(), StepFault>
     requires { ⌜ count ≤ 8 ⌝ }
     ensures is { λ r. ⌜ r ≡ fitted count size cards code cells ⌝ }
     ensures roomy { λ r. ⌜ made r (λ _. (count ≤ cards) × (256 * count ≤ code)) ⌝ }
 {
-    if count as usize <= cards && 256 * count as usize <= code && count as usize * size as usize <= cells {
+    if count as usize <= cards
+        && 256 * count as usize <= code
+        && count as usize * size as usize <= cells
+    {
         Ok(())
     } else {
         Err(StepFault::TooShort)
     }
 }
 
-pub(crate) fn card_record(cards: &[CardRecord], count: u32, card: u32) -> Result<CardRecord, StepFault>
+pub(crate) fn card_record(
+    cards: &[CardRecord],
+    count: u32,
+    card: u32,
+) -> Result<CardRecord, StepFault>
     requires { ⌜ count ≤ length (now cards) ⌝ }
     ensures is { λ r. ⌜ r ≡ recordOf (now (cards .entry)) count card ⌝ }
     ensures known { λ r. ⌜ made r (λ _. card < count) ⌝ }
@@ -56,7 +69,12 @@ pub(crate) fn card_record(cards: &[CardRecord], count: u32, card: u32) -> Result
     }
 }
 
-fn pending_row<W: Word>(code: &[CodeRow<W>], held: CardRecord, card: u32, position: u32) -> Result<CodeRow<W>, StepFault>
+fn pending_row<W: Word>(
+    code: &[CodeRow<W>],
+    held: CardRecord,
+    card: u32,
+    position: u32,
+) -> Result<CodeRow<W>, StepFault>
     requires { ⌜ 256 * (card + 1) ≤ length (now code) ⌝ }
     ensures is { λ r. ⌜ r ≡ rowOf (now (code .entry)) held card position ⌝ }
     ensures known { λ r. ⌜ made r (λ _. position < 256) ⌝ }
@@ -93,7 +111,12 @@ fn lowest_binder<W: Word>(rows: &[CodeRow<W>], later: Instruction<W>) -> Option<
     None
 }
 
-fn unbound<W: Word>(code: &[CodeRow<W>], card: u32, position: u32, instruction: Instruction<W>) -> Result<(), StepFault>
+fn unbound<W: Word>(
+    code: &[CodeRow<W>],
+    card: u32,
+    position: u32,
+    instruction: Instruction<W>,
+) -> Result<(), StepFault>
     requires { ⌜ 256 * (card + 1) ≤ length (now code) ⌝ ∗ ⌜ position < 256 ⌝ }
     ensures { λ r. ⌜ r ≡ free (now (code .entry)) card position instruction ⌝ }
 {
@@ -105,7 +128,12 @@ fn unbound<W: Word>(code: &[CodeRow<W>], card: u32, position: u32, instruction: 
 }
 
 // The row at a card's position, if it is pending and nothing binds it.
-pub(crate) fn ready_row<W: Word>(code: &[CodeRow<W>], held: CardRecord, card: u32, position: u32) -> Result<CodeRow<W>, StepFault>
+pub(crate) fn ready_row<W: Word>(
+    code: &[CodeRow<W>],
+    held: CardRecord,
+    card: u32,
+    position: u32,
+) -> Result<CodeRow<W>, StepFault>
     requires { ⌜ 256 * (card + 1) ≤ length (now code) ⌝ }
     ensures is { λ r. ⌜ r ≡ rowReady (now (code .entry)) held card position ⌝ }
     ensures known { λ r. ⌜ made r (λ _. position < 256) ⌝ }
@@ -134,7 +162,11 @@ pub(crate) fn cell_at<W: Word>(cells: &[Cell<W>], size: u32, card: u32, address:
     ensures { λ r. ⌜ r ≡ cellAt (now (cells .entry)) size card address ⌝ }
 {
     if address < size {
-        look(cells, card as usize * size as usize + address as usize, Cell::Absent)
+        look(
+            cells,
+            card as usize * size as usize + address as usize,
+            Cell::Absent,
+        )
     } else {
         Cell::Absent
     }
@@ -192,7 +224,13 @@ pub(crate) fn room(used: u32, rows: usize) -> Result<(), StepFault>
 }
 
 // What performing the row would do.
-pub(crate) fn plan_of<W: Word>(row: CodeRow<W>, cell: Cell<W>, recorded: Option<W>, used: u32, rows: usize) -> Result<Plan<W>, StepFault>
+pub(crate) fn plan_of<W: Word>(
+    row: CodeRow<W>,
+    cell: Cell<W>,
+    recorded: Option<W>,
+    used: u32,
+    rows: usize,
+) -> Result<Plan<W>, StepFault>
     ensures is { λ r. ⌜ r ≡ planned alike row cell recorded used rows ⌝ }
     ensures known { λ r. ⌜ made r (λ _. used < 4096) ⌝ }
 {
@@ -203,13 +241,22 @@ pub(crate) fn plan_of<W: Word>(row: CodeRow<W>, cell: Cell<W>, recorded: Option<
 }
 
 // The cell of a card's address, in a memory of that size.
-pub(crate) fn cell_in<W: Word>(cells: &[Cell<W>], size: u32, card: u32, address: u32) -> Result<Cell<W>, StepFault>
+pub(crate) fn cell_in<W: Word>(
+    cells: &[Cell<W>],
+    size: u32,
+    card: u32,
+    address: u32,
+) -> Result<Cell<W>, StepFault>
     requires { ⌜ card < 8 ⌝ }
     ensures is { λ r. ⌜ r ≡ cellIn (now (cells .entry)) size card address ⌝ }
     ensures known { λ r. ⌜ made r (λ _. address < size) ⌝ }
 {
     if address < size {
-        Ok(look(cells, card as usize * size as usize + address as usize, Cell::Absent))
+        Ok(look(
+            cells,
+            card as usize * size as usize + address as usize,
+            Cell::Absent,
+        ))
     } else {
         Err(StepFault::NoSuchAddress)
     }
@@ -243,7 +290,13 @@ fn clean<W: Word>(cell: Cell<W>) -> Result<(), StepFault>
 }
 
 // The word that a cache step would copy into the cell.
-pub(crate) fn word_to_cache<W: Word, M: Memory<Word = W>>(memory: &M, address: u32, cell: Cell<W>, used: u32, rows: usize) -> Result<W, StepFault>
+pub(crate) fn word_to_cache<W: Word, M: Memory<Word = W>>(
+    memory: &M,
+    address: u32,
+    cell: Cell<W>,
+    used: u32,
+    rows: usize,
+) -> Result<W, StepFault>
     ensures is { λ r. ⌜ r ≡ toCache (meaning (now (memory .entry))) address cell used rows ⌝ }
     ensures known { λ r. ⌜ made r (λ _. used < 4096) ⌝ }
 {

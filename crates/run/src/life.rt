@@ -60,7 +60,12 @@ pub struct Unstarted<W, M, O> {
 
 impl<W: Word, M: Memory<Word = W>, O: MemoryOrder> Draft<W, M, O> {
     // An empty draft over a memory, whose words are the initial words.
-    pub fn open(memory: M, order: O, count: u32, cards: &mut [CardRecord]) -> Result<Draft<W, M, O>, Unopened<M, O>>
+    pub fn open(
+        memory: M,
+        order: O,
+        count: u32,
+        cards: &mut [CardRecord],
+    ) -> Result<Draft<W, M, O>, Unopened<M, O>>
         ensures table { λ _. ⌜ now (cards .exit) ≡ recordsOpened count (now (cards .entry)) (openable count (length (meaning memory)) (length (now (cards .entry)))) ⌝ }
         ensures is { λ r. ⌜ Cases r (λ d. (Ok tt ≡ openable count (length (meaning memory)) (length (now (cards .entry)))) × (d .memory ≡ memory) × (d .order ≡ order) × (d .count ≡ count) × (d .raw ≡ false)) (λ u. (Err (u .why) ≡ openable count (length (meaning memory)) (length (now (cards .entry)))) × (u .memory ≡ memory) × (u .order ≡ order)) ⌝ }
     {
@@ -68,8 +73,22 @@ impl<W: Word, M: Memory<Word = W>, O: MemoryOrder> Draft<W, M, O> {
         match may_open(count, size, cards.len()) {
             Err(why) => Err(Unopened { memory, order, why }),
             Ok(()) => {
-                fill(cards, count as usize, CardRecord { entries: 0, length: 0, pending: 0 });
-                Ok(Draft { memory, order, count, raw: false, word: PhantomData })
+                fill(
+                    cards,
+                    count as usize,
+                    CardRecord {
+                        entries: 0,
+                        length: 0,
+                        pending: 0,
+                    },
+                );
+                Ok(Draft {
+                    memory,
+                    order,
+                    count,
+                    raw: false,
+                    word: PhantomData,
+                })
             }
         }
     }
@@ -83,8 +102,20 @@ impl<W: Word, M: Memory<Word = W>, O: MemoryOrder> Draft<W, M, O> {
             Err(why) => Err(Unstarted { draft: self, why }),
             Ok(()) => {
                 fill(cells, self.count as usize * size as usize, Cell::Absent);
-                let Draft { memory, order: _, count, raw, word } = self;
-                Ok(Running { memory, count, raw, used: 0, word })
+                let Draft {
+                    memory,
+                    order: _,
+                    count,
+                    raw,
+                    word,
+                } = self;
+                Ok(Running {
+                    memory,
+                    count,
+                    raw,
+                    used: 0,
+                    word,
+                })
             }
         }
     }
@@ -92,7 +123,13 @@ impl<W: Word, M: Memory<Word = W>, O: MemoryOrder> Draft<W, M, O> {
     pub fn into_memory(self) -> M
         ensures { λ r. ⌜ r ≡ self .memory ⌝ }
     {
-        let Draft { memory, order: _, count: _, raw: _, word: _ } = self;
+        let Draft {
+            memory,
+            order: _,
+            count: _,
+            raw: _,
+            word: _,
+        } = self;
         memory
     }
 }
@@ -109,8 +146,20 @@ impl<W: Word, M: Memory<Word = W>> Running<W, M> {
     pub fn close(self) -> Closed<W, M>
         ensures { λ r. ⌜ (r .memory ≡ self .memory) × (r .count ≡ self .count) × (r .raw ≡ self .raw) × (r .used ≡ self .used) ⌝ }
     {
-        let Running { memory, count, raw, used, word } = self;
-        Closed { memory, count, raw, used, word }
+        let Running {
+            memory,
+            count,
+            raw,
+            used,
+            word,
+        } = self;
+        Closed {
+            memory,
+            count,
+            raw,
+            used,
+            word,
+        }
     }
 }
 
@@ -118,7 +167,13 @@ impl<W: Word, M: Memory<Word = W>> Closed<W, M> {
     pub fn into_memory(self) -> M
         ensures { λ r. ⌜ r ≡ self .memory ⌝ }
     {
-        let Closed { memory, count: _, raw: _, used: _, word: _ } = self;
+        let Closed {
+            memory,
+            count: _,
+            raw: _,
+            used: _,
+            word: _,
+        } = self;
         memory
     }
 }

@@ -33,13 +33,13 @@ impl Span {
         }
     }
 
-    pub fn low(&self) -> u32
+    pub(crate) fn low(&self) -> u32
         ensures { λ r. ⌜ r ≡ now (self .entry) .low ⌝ }
     {
         self.low
     }
 
-    pub fn high(&self) -> u32
+    pub(crate) fn high(&self) -> u32
         ensures { λ r. ⌜ r ≡ now (self .entry) .high ⌝ }
     {
         self.high

@@ -19,7 +19,7 @@ work-records-memory-requires c κs =
     let n : length (shown (c .over .result .words .now)) ≡ h .size = ap length e ∙ initial-length section (c .args .own .now) (h .size) (p .0) (p .1) (c .pre .bounds .1 .1 .1) in
     record {
       bounds = (c .pre .bounds .0, (c .pre .bounds .1 .0, (omega (arith, n, c .pre .bounds .1 .1 .0), omega (arith, n, c .pre .bounds .1 .1 .1))));
-      room = (c .pre .room .0, subst (λ (k : ℕ). h .cards * k ≤ length (c .args .cells .now)) (sym n) (c .pre .room .1))
+      room = (c .pre .room .0, subst (λ (k : ℕ). h .cards * k ≤ length (c .args .cells .now)) (sym n) (c .pre .room .1));
     }
 
 pub returns : need.returns

@@ -10,7 +10,7 @@ loop-k-holds g c = laid-first (c .args .code .now) (c .args .at) (c .args .numbe
 pub loop-k-again : need.loop-k-again
 loop-k-again g c =
     laid-next (c .loop-k .code) _ (c .args .at) (c .args .number) (c .loop-k .k) (instructions (c .args .translation .now)) (c .get .result)
-      (omega arith) (c .get .ensures) (c .lay-one .ensures)
+    (omega arith) (c .get .ensures) (c .lay-one .ensures)
     ∙ c .loop-k .inv
 
 pub returns : need.returns

@@ -6,7 +6,7 @@ use borrow.Author.Needs.{needs}
 use Rattle.run.proofs.checks.lowest_binder.Needs as need
 
 pub returns-then-holds-back : need.returns-then-holds-back
-returns-then-holds-back g c = 
+returns-then-holds-back g c =
     let e = binder-here (c .args .rows .now) (c .args .later) (c .loop-row .row-index) (c .row-item .result) (c .loop-row-test .taken) (c .row-item .is) (cc) in cc
 
 pub loop-row-again : need.loop-row-again
