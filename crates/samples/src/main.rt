@@ -13,7 +13,9 @@ const REPORT_BYTES: usize = 2112;
 fn print_report(rt: &LibcRuntime, name: &str) -> Result<(), AnyError> {
     let input = fs::read(rt, name)?;
     let mut table = [0u8; REPORT_BYTES];
-    let mut kept = HeadingRecord { heading: Heading::Day };
+    let mut kept = HeadingRecord {
+        heading: Heading::Day,
+    };
     let mut text = Text::new(&mut table);
     let _ = report_day(input.as_slice(), &mut kept, &mut text);
     let len = text.len().min(REPORT_BYTES);
