@@ -2,3 +2,4 @@ mod Tens
 mod Pages
 mod Prints
 mod Days
+pub mod Rooms

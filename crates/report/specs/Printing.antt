@@ -1,5 +1,5 @@
 -- What printing answers and leaves.
-use Prim.Native.Nat.{ℕ, _-_}
+use Prim.Native.Nat.{ℕ, _+_, _-_, _*_, _<_, _≤_}
 use mathlib.Core.Path.{_≡_}
 use mathlib.Core.Bool.{Bool, true, false, cond}
 use mathlib.Core.List.{List, [], _∷_, _++_}
@@ -47,3 +47,8 @@ pub record Stopped (before : Page) (lines : List Line) (after : Page) : Type 0 w
   pub whole : fits (room-of before) (lines-bytes first) ≡ true
   pub there : after ≡ added before (lines-bytes first)
   pub no-room : fits (room-of after) (line-bytes next) ≡ false
+
+-- printing `count` lines of at most `most` bytes each: that much room suffices, and no more is used
+abbrev pub Roomy : {X : Type 0} → ℕ → ℕ → Page → Page → Result X TextFault → Type 0
+Roomy most count before after (Ok _) = room-of before ≤ room-of after + most * count
+Roomy most count before after (Err fault) = room-of before < most * count

@@ -1,12 +1,14 @@
-ghost use Prim.Native.Nat.{_<_};
+ghost use Prim.Native.Nat.{_<_, _≤_};
 ghost use Rattle.audit.specs.Alone.{verdict-of};
 ghost use Rattle.files.specs.Day.{sound-day, run-count, run-part};
-ghost use Rattle.report.specs.Printing.{AllPrinted, Printed, Stopped};
+ghost use Rattle.report.specs.Lines.{line-bytes};
+ghost use Rattle.report.specs.Printing.{AllPrinted, Printed, Roomy, Stopped, room-of};
 ghost use Rattle.report.specs.Reports.{day-verdicts, is-ok, ok-count, report-lines, run-line, run-lines};
 ghost use Rattle.report.specs.Texts.{page-of};
-ghost use Rattle.std.specs.Results.{Cases};
+ghost use Rattle.std.specs.Results.{Cases, isOk};
 ghost use Rattle.std.specs.Vec.{made};
 ghost use denote.Ref.{now, name};
+ghost use lib.ListN.{length};
 ghost use mathlib.Core.Bool.{true};
 ghost use mathlib.Core.Path.{_≡_};
 use crate::heading::HeadingRecord;
@@ -29,6 +31,7 @@ fn report_nth(
     ensures heading { λ _. ⌜ now (kept .exit) .heading ≡ now (kept .entry) .heading ⌝ }
     ensures printed { λ r. ⌜ Printed (page-of (now (text .entry))) (run-line n (verdict-of (run-part (now (now (day .entry) .bytes)) n))) (page-of (now (text .exit))) r ⌝ }
     ensures ok { λ r. ⌜ made r (λ ok. ok ≡ is-ok (verdict-of (run-part (now (now (day .entry) .bytes)) n))) ⌝ }
+    ensures short { λ _. ⌜ length (line-bytes (run-line n (verdict-of (run-part (now (now (day .entry) .bytes)) n)))) ≤ 64 ⌝ }
     ensures same { λ _. ⌜ name (now (text .exit) .bytes) ≡ name (now (text .entry) .bytes) ⌝ }
 {
     let Some(run) = day.run(n) else { unreachable() };
@@ -45,6 +48,7 @@ fn report_runs(
     ensures heading { λ _. ⌜ now (kept .exit) .heading ≡ now (kept .entry) .heading ⌝ }
     ensures printed { λ r. ⌜ AllPrinted (page-of (now (text .entry))) (run-lines 0 (day-verdicts (now (now (day .entry) .bytes)))) (page-of (now (text .exit))) r ⌝ }
     ensures ok { λ r. ⌜ made r (λ ok. ok ≡ ok-count (day-verdicts (now (now (day .entry) .bytes)))) ⌝ }
+    ensures room { λ r. ⌜ Roomy 64 (run-count (now (now (day .entry) .bytes))) (page-of (now (text .entry))) (page-of (now (text .exit))) r ⌝ }
     ensures same { λ _. ⌜ name (now (text .exit) .bytes) ≡ name (now (text .entry) .bytes) ⌝ }
 {
     let mut ok: u32 = 0;
@@ -65,6 +69,7 @@ pub fn report_day(
     ensures heading { λ _. ⌜ now (kept .exit) .heading ≡ now (kept .entry) .heading ⌝ }
     ensures printed { λ r. ⌜ AllPrinted (page-of (now (text .entry))) (report-lines (now (kept .entry) .heading) (now (input .entry))) (page-of (now (text .exit))) r ⌝ }
     ensures stops { λ r. ⌜ Cases r (λ _. Unit {0}) (λ _. Stopped (page-of (now (text .entry))) (report-lines (now (kept .entry) .heading) (now (input .entry))) (page-of (now (text .exit)))) ⌝ }
+    ensures enough { λ r. ⌜ (2112 ≤ room-of (page-of (now (text .entry))) → isOk r ≡ true) ⌝ }
     ensures same { λ _. ⌜ name (now (text .exit) .bytes) ≡ name (now (text .entry) .bytes) ⌝ }
 {
     match DayFile::open(input) {

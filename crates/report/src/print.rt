@@ -1,6 +1,11 @@
-ghost use Rattle.report.specs.Printing.{Printed};
+ghost use Prim.Native.Nat.{_≤_};
+ghost use Rattle.report.specs.Lines.{line-bytes};
+ghost use Rattle.report.specs.Printing.{Printed, room-of};
+ghost use Rattle.std.specs.Results.{isOk};
+ghost use mathlib.Core.Bool.{true};
 ghost use Rattle.report.specs.Texts.{page-of};
 ghost use denote.Ref.{now, name};
+ghost use lib.ListN.{length};
 ghost use mathlib.Core.Path.{_≡_};
 use crate::line::Line;
 use crate::line_buffer::LineBuffer;
@@ -11,6 +16,8 @@ impl<'a> Text<'a> {
     // Puts a line behind what is written, whole or not at all.
     pub fn print(&mut self, line: Line) -> Result<(), TextFault>
         ensures printed { λ r. ⌜ Printed (page-of (now (self .entry))) line (page-of (now (self .exit))) r ⌝ }
+        ensures enough { λ r. ⌜ (64 ≤ room-of (page-of (now (self .entry))) → isOk r ≡ true) ⌝ }
+        ensures short { λ _. ⌜ length (line-bytes line) ≤ 64 ⌝ }
         ensures same { λ _. ⌜ name (now (self .exit) .bytes) ≡ name (now (self .entry) .bytes) ⌝ }
     {
         let buffer = LineBuffer::of(line);

@@ -1,9 +1,12 @@
 ghost use Rattle.audit.specs.Alone.{verdict-of};
+ghost use Prim.Native.Nat.{_≤_};
+ghost use Rattle.report.specs.Lines.{line-bytes};
 ghost use Rattle.report.specs.Printing.{Printed};
 ghost use Rattle.report.specs.Reports.{is-ok, run-line, saying-of};
 ghost use Rattle.report.specs.Texts.{page-of};
 ghost use Rattle.std.specs.Vec.{made};
 ghost use denote.Ref.{now, name};
+ghost use lib.ListN.{length};
 ghost use mathlib.Core.Path.{_≡_};
 use crate::heading::HeadingGuard;
 use crate::heading::HeadingRecord;
@@ -47,6 +50,7 @@ pub fn report_run(
     ensures heading { λ _. ⌜ now (kept .exit) .heading ≡ now (kept .entry) .heading ⌝ }
     ensures printed { λ r. ⌜ Printed (page-of (now (text .entry))) (run-line n (verdict-of (now (bytes .entry)))) (page-of (now (text .exit))) r ⌝ }
     ensures ok { λ r. ⌜ made r (λ ok. ok ≡ is-ok (verdict-of (now (bytes .entry)))) ⌝ }
+    ensures short { λ _. ⌜ length (line-bytes (run-line n (verdict-of (now (bytes .entry))))) ≤ 64 ⌝ }
     ensures same { λ _. ⌜ name (now (text .exit) .bytes) ≡ name (now (text .entry) .bytes) ⌝ }
 {
     let guard = HeadingGuard::over(kept, n);

@@ -5,7 +5,8 @@ use native.Mathlib.Omega.{arith}
 use denote.Ref.{now}
 use Rattle.std.proofs.shelf.Results.{err-from-errBy}
 use Rattle.report.specs.Texts.{page-of}
-use Rattle.report.proofs.Days.{begun, counted, ended, nth-ok, one-on, passed-over, refused}
+use Rattle.report.proofs.Days.{begun, counted, ended, nth-line, nth-ok, one-on, passed-over, refused}
+use Rattle.report.proofs.Rooms.{room-end, room-off, room-on}
 use Rattle.report.proofs.day.report_runs.Needs as need
 use Rattle.report.proofs.day.report_runs.Needs.{then-branch, else-branch}
 
@@ -13,7 +14,7 @@ pub loop-n-holds : need.loop-n-holds
 loop-n-holds c =
     let count = c .count-n-end .ensures in
     let all : c .count-n-end .result - 0 ≡ c .count-n-end .result = omega arith in
-    (begun (now (c .args .day .now .bytes)) _ (page-of (c .args .text .now)) _ (all ∙ count), omega arith, refl, refl)
+    (begun (now (c .args .day .now .bytes)) _ (page-of (c .args .text .now)) _ (all ∙ count), omega arith, refl, refl, omega arith)
 
 pub returns-in-Break-report-nth : need.returns-in-Break-report-nth
 returns-in-Break-report-nth c =
@@ -27,6 +28,7 @@ returns-in-Break-report-nth c =
       heading = e .heading ∙ i .2;
       printed = refused bytes _ (page-of (c .loop-n .text)) _ _ _ n _ _ (i .0) left (e .printed);
       ok = tt;
+      room = room-off _ (page-of (c .loop-n .text)) (page-of (c .loop-n .text)) (nth-line bytes n) n (i .4) (e .short) _ (omega (arith, c .count-n-end .ensures)) (e .printed .0);
       same = e .same ∙ i .3;
     }
 
@@ -46,9 +48,10 @@ loop-n-again c =
       elim (c .if-branch .came) [ then-branch w ↦ omega (arith, w .ok-is) | else-branch w ↦ omega (arith, w .ok-is) ],
       e .heading ∙ i .2,
       e .same ∙ i .3,
+      room-on _ (page-of (c .loop-n .text)) _ (nth-line bytes n) n (i .4) (e .short) (e .printed .0) (e .printed .1),
     )
 
 pub returns : need.returns
 returns c =
     let done = ended (now (c .args .day .now .bytes)) _ (page-of (c .loop-n .text)) _ _ _ (c .loop-n .inv .0) (omega arith) in
-    record { heading = c .loop-n .inv .2; printed = done .0; ok = done .1; same = c .loop-n .inv .3 }
+    record { heading = c .loop-n .inv .2; printed = done .0; ok = done .1; room = room-end _ _ _ _ (c .loop-n .inv .4) (omega (arith, c .count-n-end .ensures)); same = c .loop-n .inv .3 }

@@ -1,6 +1,7 @@
-use Prim.Native.Nat.{_-_, _≤_}
+use Prim.Native.Nat.{_+_, _-_, _*_, _≤_}
 use mathlib.Core.Path.{_≡_}
 use denote.Ref.{now, name}
+use Rattle.report.specs.Printing.{room-of}
 use Rattle.report.specs.Texts.{page-of}
 use Rattle.report.proofs.Days.{Underway}
 use Rattle.report.proofs.day.report_runs.Given as given
@@ -11,3 +12,4 @@ Inv-loop-n l =
     × (l .ok ≤ l .n)
     × (l .kept′ .heading ≡ l .entry .kept′ .heading)
     × (name (l .text .bytes) ≡ name (l .entry .text .bytes))
+    × (room-of (page-of (l .entry .text)) ≤ room-of (page-of (l .text)) + 64 * l .n)
