@@ -14,8 +14,8 @@ use Rattle.files.proofs.Gapless.{sound}
 use Rattle.report.specs.declared.line.Line.{Line}
 use Rattle.report.specs.declared.text.TextFault.{TextFault}
 use Rattle.report.specs.Lines.{line-bytes}
-use Rattle.report.specs.Printing.{Printed, fits, room-of}
-use Rattle.report.specs.Texts.{Page, added}
+use Rattle.report.specs.Printing.{AllPrinted, Printed, TextPrinted, fits, room-of}
+use Rattle.report.specs.Texts.{Page, added, empty-page}
 use Rattle.report.proofs.Pages.{room-added}
 
 module _ (start page after : Page) (line : Line) (n : ℕ) (enough : room-of start ≤ room-of page + 64 * n) (short : length (line-bytes line) ≤ 64) where
@@ -65,3 +65,12 @@ few-runs bytes input e s = subst (λ (l : List ℕ). run-count l ≤ 32) (sym e)
 
 pub more : (n : ℕ) → 2112 ≤ n → 64 ≤ n
 more n h = omega arith
+
+-- a table whose text was refused a line
+pub text-refused : (start after : Page) (old table : List ℕ) (lines : List Line) (fault : TextFault) → start ≡ empty-page old → AllPrinted {X = Unit {0}} start lines after (Err fault) → table ≡ after .bytes → TextPrinted (empty-page old) lines table (Err fault)
+text-refused start after old table lines fault s p t =
+    let q : AllPrinted {X = Unit {0}} (empty-page old) lines after (Err fault) = subst (λ (x : Page). AllPrinted {X = Unit {0}} x lines after (Err fault)) s p in
+    (q .0, t ∙ ap (λ (x : Page). x .bytes) (q .1), q .2)
+
+pub text-enough : (start : Page) (old : List ℕ) → start ≡ empty-page old → 2112 ≤ length old → 2112 ≤ room-of start
+text-enough start old s h = subst (λ (x : Page). 2112 ≤ room-of x) (sym s) (omega arith)

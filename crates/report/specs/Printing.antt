@@ -52,3 +52,11 @@ pub record Stopped (before : Page) (lines : List Line) (after : Page) : Type 0 w
 abbrev pub Roomy : {X : Type 0} → ℕ → ℕ → Page → Page → Result X TextFault → Type 0
 Roomy most count before after (Ok _) = room-of before ≤ room-of after + most * count
 Roomy most count before after (Err fault) = room-of before < most * count
+
+-- lines printed into a table: it holds them all in its first bytes, as many as are answered, or, with 18, the first lines that fit
+abbrev pub TextPrinted : Page → List Line → List ℕ → Result ℕ TextFault → Type 0
+TextPrinted before lines table (Ok n) = AllPrinted before lines (record { bytes = table; len = n }) (Ok n)
+TextPrinted before lines table (Err fault) =
+    (fits (room-of before) (lines-bytes lines) ≡ false)
+    × (table ≡ added before (lines-bytes (fitting-lines (room-of before) lines)) .bytes)
+    × (text-fault-number fault ≡ 18)

@@ -7,3 +7,4 @@ mod line_buffer;
 mod print;
 pub mod runs;
 pub mod text;
+pub mod whole;

@@ -1,26 +1,18 @@
 // Prints, for each day file of the folder that it is run in, the file's name and its report.
-use report::day::report_day;
-use report::heading::Heading;
-use report::heading::HeadingRecord;
-use report::text::Text;
+use report::whole::REPORT_BYTES;
+use report::whole::day_text;
 use std::error::AnyError;
 use std::fs;
 use std::io::Write;
 
-// A report has at most 33 lines, and a line at most 64 bytes.
-const REPORT_BYTES: usize = 2112;
-
 fn print_report(rt: &LibcRuntime, name: &str) -> Result<(), AnyError> {
     let input = fs::read(rt, name)?;
     let mut table = [0u8; REPORT_BYTES];
-    let mut kept = HeadingRecord {
-        heading: Heading::Day,
+    let Ok(len) = day_text(input.as_slice(), &mut table) else {
+        return Err("the report does not fit".into());
     };
-    let mut text = Text::new(&mut table);
-    let _ = report_day(input.as_slice(), &mut kept, &mut text);
-    let len = text.len().min(REPORT_BYTES);
     println!(rt, "{name}")?;
-    rt.stdout().write_all(&table[0..len])?;
+    rt.stdout().write_all(&table[0..len.min(REPORT_BYTES)])?;
     Ok(())
 }
 
