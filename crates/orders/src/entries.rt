@@ -1,4 +1,6 @@
 // Entries of a program, and what a memory order sees of them.
+ghost use mathlib.Core.Path.{_≡_};
+ghost use Rattle.orders.specs.Tables.{plain};
 
 #[derive(Clone, Copy)]
 pub enum Op {
@@ -20,6 +22,17 @@ pub struct Access {
     pub op: Op,
     pub mark: Mark,
     pub address: u32,
+}
+
+impl Access {
+    pub fn is_plain(&self) -> bool
+        ensures { λ r. ⌜ r ≡ plain (now (self .entry) .mark) ⌝ }
+    {
+        match self.mark {
+            Mark::Plain => true,
+            _ => false,
+        }
+    }
 }
 
 // An entry as a memory order sees it: without its word.

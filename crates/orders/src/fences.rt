@@ -4,7 +4,7 @@ ghost use mathlib.Core.Bool.{cond};
 ghost use mathlib.Core.List.{[], _∷_, _++_};
 ghost use Prim.Native.Nat.{_<_, _≤_, _+_};
 ghost use lib.ListN.{length};
-ghost use Rattle.crf.specs.Fences.{row-of};
+ghost use Rattle.crf.specs.Fences.{row-of, star-to, from-star};
 ghost use Rattle.orders.specs.Fences.{rows, by-mask, row-in};
 ghost use Rattle.orders.specs.Lists.{nth};
 use crf::fence::Fence;
@@ -36,6 +36,26 @@ impl Fences {
             Fences::Three(a, b, c) => Fences::Four(a, b, c, fence),
             Fences::Four(_, _, _, _) => self,
         }
+    }
+
+    // Two fences between all addresses and `address`.
+    pub fn two_to(first: FenceKind, second: FenceKind, address: u32) -> Fences
+        ensures { λ r. ⌜ rows r ≡ star-to first address ∷ star-to second address ∷ [] ⌝ }
+    {
+        Fences::Two(
+            Fence::all_to(first, address),
+            Fence::all_to(second, address),
+        )
+    }
+
+    // Two fences between `address` and all addresses.
+    pub fn two_from(first: FenceKind, second: FenceKind, address: u32) -> Fences
+        ensures { λ r. ⌜ rows r ≡ from-star first address ∷ from-star second address ∷ [] ⌝ }
+    {
+        Fences::Two(
+            Fence::to_all(first, address),
+            Fence::to_all(second, address),
+        )
     }
 
     // The fences of a barrier's mask.

@@ -1,10 +1,8 @@
 // Partial store order: later accesses may pass an earlier store, unless a barrier stands between.
+ghost use Rattle.orders.specs.Fences.{rows};
 ghost use Rattle.orders.specs.Tables.{pso-takes, pso-before, no-fences, pso-keeps};
 ghost use mathlib.Core.List.{[]};
 ghost use mathlib.Core.Path.{_≡_};
-ghost use Rattle.orders.specs.Fences.{rows};
-use crate::entries::Access;
-use crate::entries::Mark;
 use crate::entries::Op;
 use crate::entries::Shape;
 use crate::fences::Fences;
@@ -28,14 +26,7 @@ pub impl MemoryOrder for Pso as PsoOrder {
         ensures { λ r. ⌜ r ≡ pso-takes shape ⌝ }
     {
         match shape {
-            Shape::Access(
-                Access {
-                    op: _,
-                    mark: Mark::Plain,
-                    address: _,
-                },
-            ) => true,
-            Shape::Access(_) => false,
+            Shape::Access(access) => access.is_plain(),
             Shape::Barrier(mask) => mask == 12,
         }
     }
@@ -44,20 +35,10 @@ pub impl MemoryOrder for Pso as PsoOrder {
         ensures { λ r. ⌜ rows r ≡ pso-before shape ⌝ }
     {
         match shape {
-            Shape::Access(
-                Access {
-                    op: Op::Load,
-                    mark: _,
-                    address,
-                },
-            ) => Fences::One(Fence::all_to(FenceKind::Rr, address)),
-            Shape::Access(
-                Access {
-                    op: Op::Store,
-                    mark: _,
-                    address,
-                },
-            ) => Fences::One(Fence::all_to(FenceKind::Rw, address)),
+            Shape::Access(access) => match access.op {
+                Op::Load => Fences::One(Fence::all_to(FenceKind::Rr, access.address)),
+                Op::Store => Fences::One(Fence::all_to(FenceKind::Rw, access.address)),
+            },
             Shape::Barrier(mask) => Fences::of_mask(mask),
         }
     }

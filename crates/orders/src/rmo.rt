@@ -1,10 +1,8 @@
 // Relaxed memory order: only barriers keep pairs.
+ghost use Rattle.orders.specs.Fences.{rows};
 ghost use Rattle.orders.specs.Tables.{rmo-takes, rmo-before, no-fences, rmo-keeps};
 ghost use mathlib.Core.List.{[]};
 ghost use mathlib.Core.Path.{_≡_};
-ghost use Rattle.orders.specs.Fences.{rows};
-use crate::entries::Access;
-use crate::entries::Mark;
 use crate::entries::Shape;
 use crate::fences::Fences;
 use crate::order::MemoryOrder;
@@ -25,14 +23,7 @@ pub impl MemoryOrder for Rmo as RmoOrder {
         ensures { λ r. ⌜ r ≡ rmo-takes shape ⌝ }
     {
         match shape {
-            Shape::Access(
-                Access {
-                    op: _,
-                    mark: Mark::Plain,
-                    address: _,
-                },
-            ) => true,
-            Shape::Access(_) => false,
+            Shape::Access(access) => access.is_plain(),
             Shape::Barrier(mask) => 1 <= mask && mask <= 15,
         }
     }

@@ -1,15 +1,12 @@
 // Sequential consistency: keeps every pair.
+ghost use Rattle.orders.specs.Fences.{rows};
 ghost use Rattle.orders.specs.Tables.{sc-takes, sc-before, no-fences, sc-keeps};
 ghost use mathlib.Core.List.{[]};
 ghost use mathlib.Core.Path.{_≡_};
-ghost use Rattle.orders.specs.Fences.{rows};
-use crate::entries::Access;
-use crate::entries::Mark;
 use crate::entries::Op;
 use crate::entries::Shape;
 use crate::fences::Fences;
 use crate::order::MemoryOrder;
-use crf::fence::Fence;
 use crf::instruction::FenceKind;
 
 #[derive(Clone, Copy)]
@@ -28,14 +25,8 @@ pub impl MemoryOrder for Sc as ScOrder {
         ensures { λ r. ⌜ r ≡ sc-takes shape ⌝ }
     {
         match shape {
-            Shape::Access(
-                Access {
-                    op: _,
-                    mark: Mark::Plain,
-                    address: _,
-                },
-            ) => true,
-            _ => false,
+            Shape::Access(access) => access.is_plain(),
+            Shape::Barrier(_) => false,
         }
     }
 
@@ -43,30 +34,10 @@ pub impl MemoryOrder for Sc as ScOrder {
         ensures { λ r. ⌜ rows r ≡ sc-before shape ⌝ }
     {
         match shape {
-            Shape::Access(
-                Access {
-                    op: Op::Load,
-                    mark: _,
-                    address,
-                },
-            ) => {
-                Fences::Two(
-                    Fence::all_to(FenceKind::Rr, address),
-                    Fence::all_to(FenceKind::Wr, address),
-                )
-            }
-            Shape::Access(
-                Access {
-                    op: Op::Store,
-                    mark: _,
-                    address,
-                },
-            ) => {
-                Fences::Two(
-                    Fence::all_to(FenceKind::Rw, address),
-                    Fence::all_to(FenceKind::Ww, address),
-                )
-            }
+            Shape::Access(access) => match access.op {
+                Op::Load => Fences::two_to(FenceKind::Rr, FenceKind::Wr, access.address),
+                Op::Store => Fences::two_to(FenceKind::Rw, FenceKind::Ww, access.address),
+            },
             Shape::Barrier(mask) => Fences::of_mask(mask),
         }
     }

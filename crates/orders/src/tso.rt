@@ -1,10 +1,8 @@
 // Total store order: a later load may pass an earlier store, unless a barrier stands between.
+ghost use Rattle.orders.specs.Fences.{rows};
 ghost use Rattle.orders.specs.Tables.{tso-takes, tso-before, no-fences, tso-keeps};
 ghost use mathlib.Core.List.{[]};
 ghost use mathlib.Core.Path.{_≡_};
-ghost use Rattle.orders.specs.Fences.{rows};
-use crate::entries::Access;
-use crate::entries::Mark;
 use crate::entries::Op;
 use crate::entries::Shape;
 use crate::fences::Fences;
@@ -28,14 +26,7 @@ pub impl MemoryOrder for Tso as TsoOrder {
         ensures { λ r. ⌜ r ≡ tso-takes shape ⌝ }
     {
         match shape {
-            Shape::Access(
-                Access {
-                    op: _,
-                    mark: Mark::Plain,
-                    address: _,
-                },
-            ) => true,
-            Shape::Access(_) => false,
+            Shape::Access(access) => access.is_plain(),
             Shape::Barrier(mask) => mask == 4,
         }
     }
@@ -44,24 +35,9 @@ pub impl MemoryOrder for Tso as TsoOrder {
         ensures { λ r. ⌜ rows r ≡ tso-before shape ⌝ }
     {
         match shape {
-            Shape::Access(
-                Access {
-                    op: Op::Load,
-                    mark: _,
-                    address,
-                },
-            ) => Fences::One(Fence::all_to(FenceKind::Rr, address)),
-            Shape::Access(
-                Access {
-                    op: Op::Store,
-                    mark: _,
-                    address,
-                },
-            ) => {
-                Fences::Two(
-                    Fence::all_to(FenceKind::Rw, address),
-                    Fence::all_to(FenceKind::Ww, address),
-                )
+            Shape::Access(access) => match access.op {
+                Op::Load => Fences::One(Fence::all_to(FenceKind::Rr, access.address)),
+                Op::Store => Fences::two_to(FenceKind::Rw, FenceKind::Ww, access.address),
             },
             Shape::Barrier(mask) => Fences::of_mask(mask),
         }
