@@ -1,3 +1,4 @@
 pub mod Binders
 pub mod Fills
 pub mod Laying
+pub mod Refusals

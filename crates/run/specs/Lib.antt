@@ -4,3 +4,4 @@ pub mod Rows
 pub mod Drafts
 pub mod Steps
 pub mod Runs
+pub mod Laws

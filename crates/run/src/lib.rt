@@ -4,6 +4,7 @@ mod adding;
 mod background;
 mod checks;
 pub mod fault;
+pub mod laws;
 pub mod life;
 mod performing;
 pub mod rows;
