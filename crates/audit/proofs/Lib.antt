@@ -1,3 +1,4 @@
 pub mod Turns
 pub mod Words
 pub mod Fresh
+pub mod Oks

@@ -2,4 +2,5 @@ pub mod Faults
 pub mod Turns
 pub mod Records
 pub mod Audit
+pub mod Accepted
 pub mod Alone

@@ -1,10 +1,12 @@
 // The audit of one run file.
 ghost use mathlib.Core.Path.{_≡_};
 ghost use mathlib.Core.Bool.{true};
-ghost use Prim.Native.Nat.{_*_, _≤_};
+ghost use Prim.Native.Nat.{ℕ, _*_, _≤_};
 ghost use lib.ListN.{length};
 ghost use Rattle.memory.specs.Bytes.{wordsOf};
 ghost use Rattle.std.specs.declared.result.Result.the-variants.{Ok};
+ghost use Rattle.audit.specs.Accepted.{Accepted};
+ghost use Rattle.audit.specs.declared.verdict.Verdict.the-variants as verdict;
 ghost use Rattle.audit.specs.Audit.{tables, recordsAudited, roomy, wordsBack, audited};
 use crate::fault::FileFault;
 use crate::records::Done;
@@ -72,7 +74,8 @@ pub fn audit_run(
     cells: &mut [Cell<u32>],
     steps: &mut [StepRow<u32>],
 ) -> Result<Verdict, AuditFault>
-    ensures { λ r. ⌜ record { answer = r; left = tables (now (words .exit)) (now (cards .exit)) (now (code .exit)) (now (cells .exit)) (now (steps .exit)) } ≡ audited (now (bytes .entry)) (tables (now (words .entry)) (now (cards .entry)) (now (code .entry)) (now (cells .entry)) (now (steps .entry))) ⌝ }
+    ensures audited { λ r. ⌜ record { answer = r; left = tables (now (words .exit)) (now (cards .exit)) (now (code .exit)) (now (cells .exit)) (now (steps .exit)) } ≡ audited (now (bytes .entry)) (tables (now (words .entry)) (now (cards .entry)) (now (code .entry)) (now (cells .entry)) (now (steps .entry))) ⌝ }
+    ensures ok { λ r. ⌜ ((n : ℕ) → r ≡ Ok (verdict.Ok n) → Accepted (now (bytes .entry)) (tables (now (words .entry)) (now (cards .entry)) (now (code .entry)) (now (cells .entry)) (now (steps .entry))) n) ⌝ }
 {
     let file = match RunFile::open(bytes) {
         Ok(file) => file,

@@ -2,3 +2,4 @@ pub mod Binders
 pub mod Fills
 pub mod Laying
 pub mod Refusals
+pub mod Taken
