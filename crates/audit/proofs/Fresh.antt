@@ -14,7 +14,10 @@ use Rattle.files.specs.Header.{header-of, fields-of}
 use Rattle.files.specs.Run.{sound-run}
 use Rattle.files.proofs.Laying.{bounded}
 use Rattle.audit.specs.declared.verdict.Verdict.{Verdict}
+use Rattle.audit.specs.declared.verdict.Verdict.the-variants as verdict
 use Rattle.audit.specs.declared.verdict.AuditFault.{AuditFault}
+use Rattle.audit.specs.Accepted.{Accepted}
+use Rattle.audit.proofs.Oks.{ok-accepted}
 use Rattle.audit.specs.Audit.{Tables, AuditOutcome, tables, roomy, audited}
 use Rattle.audit.specs.Alone.{fresh, verdict-of}
 
@@ -40,3 +43,6 @@ pub alone : (bs : List ℕ) (t : Tables) (o : AuditOutcome) → t ≡ fresh → 
 alone bs t o f e =
     ap (λ (x : AuditOutcome). x .answer) (e ∙ ap (audited bs) f)
     ∙ by-tests (sound-run bs) (roomy (header-of bs) (length (fresh .words)) (length (fresh .cards)) (length (fresh .code)) (length (fresh .cells))) _ _ _ _ _ (fresh-room bs) refl refl
+
+pub alone-ok : (bs : List ℕ) (n : ℕ) → verdict-of bs ≡ verdict.Ok n → Accepted bs fresh n
+alone-ok bs n h = ok-accepted bs fresh n (alone bs fresh (audited bs fresh) refl refl ∙ ap Ok h)

@@ -58,10 +58,10 @@ taken-more w (Err f) h = clash (cc)
 
 -- as many rows are used as records were worked, where none was refused
 by-answer : (section : List ℕ) (m k : ℕ) (w : World ℕ) (a : Result (Unit {0}) RowFault) (after : World ℕ)
-  → (a ≡ Ok tt → after .used ≡ w .used + 1)
-  → ((v : World ℕ) → worked (stepOne section) m (k + 1) v .stopped ≡ None → worked (stepOne section) m (k + 1) v .after .used ≡ v .used + m)
-  → workedBy (worked (stepOne section) m (k + 1)) k a after .stopped ≡ None
-  → workedBy (worked (stepOne section) m (k + 1)) k a after .after .used ≡ w .used + suc m
+    → (a ≡ Ok tt → after .used ≡ w .used + 1)
+    → ((v : World ℕ) → worked (stepOne section) m (k + 1) v .stopped ≡ None → worked (stepOne section) m (k + 1) v .after .used ≡ v .used + m)
+    → workedBy (worked (stepOne section) m (k + 1)) k a after .stopped ≡ None
+    → workedBy (worked (stepOne section) m (k + 1)) k a after .after .used ≡ w .used + suc m
 by-answer section m k w (Ok u) after one rest h =
     let a = one refl in
     let b = rest after h in
@@ -81,8 +81,8 @@ steps-ok w (Some s) n h = clash (cc)
 
 -- and of entries none of which was refused
 entries-ok : (section : List ℕ) (count : ℕ) (t : Tables) (d : Drafted ℕ) (s : Option Stop) (n : ℕ)
-  → afterEntries section count (t .cells) (t .steps) d s .verdict ≡ verdict.Ok n
-  → (s ≡ None) × (stepsAudited section count (started d (t .cells) (t .steps)) .verdict ≡ verdict.Ok n)
+    → afterEntries section count (t .cells) (t .steps) d s .verdict ≡ verdict.Ok n
+    → (s ≡ None) × (stepsAudited section count (started d (t .cells) (t .steps)) .verdict ≡ verdict.Ok n)
 entries-ok section count t d None n h = (refl, h)
 entries-ok section count t d (Some s) n h = clash (cc)
 
@@ -93,12 +93,12 @@ file-ok bs t n s h =
     let u = used-all (steps-section bs) (header-of bs .steps) 0 (started (entriesWorked bs t .after) (t .cells) (t .steps)) (p .0) in
     record { sound = s; entries = e .0; steps = p .0; all = p .1 ∙ u ∙ zero-more (header-of bs .steps); taken = p .1 }
   where
-  zero-more : (m : ℕ) → 0 + m ≡ m
-  zero-more m = omega arith
+    zero-more : (m : ℕ) → 0 + m ≡ m
+    zero-more m = omega arith
 
 by-tests : (bs : List ℕ) (t : Tables) (s r : Bool) (x : AuditOutcome) (y z : Result Verdict AuditFault) (n : ℕ)
-  → sound-run bs ≡ s → x .answer ≡ Ok (fileAudited bs t .verdict) → (y ≡ Ok (verdict.Ok n) → ⊥) → (z ≡ Ok (verdict.Ok n) → ⊥)
-  → cond s (cond r x (record { answer = y; left = t })) (record { answer = z; left = t }) .answer ≡ Ok (verdict.Ok n) → Accepted bs t n
+    → sound-run bs ≡ s → x .answer ≡ Ok (fileAudited bs t .verdict) → (y ≡ Ok (verdict.Ok n) → ⊥) → (z ≡ Ok (verdict.Ok n) → ⊥)
+    → cond s (cond r x (record { answer = y; left = t })) (record { answer = z; left = t }) .answer ≡ Ok (verdict.Ok n) → Accepted bs t n
 by-tests bs t true true x y z n e p q u h = file-ok bs t n e (cc)
 by-tests bs t true false x y z n e p q u h = absurd (q h)
 by-tests bs t false r x y z n e p q u h = absurd (u h)

@@ -1,6 +1,9 @@
 // An audit that needs no lent table.
 ghost use mathlib.Core.Path.{_≡_};
-ghost use Rattle.audit.specs.Alone.{verdict-of};
+ghost use Prim.Native.Nat.{ℕ};
+ghost use Rattle.audit.specs.Accepted.{Accepted};
+ghost use Rattle.audit.specs.Alone.{fresh, verdict-of};
+ghost use Rattle.audit.specs.declared.verdict.Verdict.the-variants as verdict;
 use crate::audit::audit_run;
 use crate::fault::FileFault;
 use crate::verdict::AuditFault;
@@ -26,7 +29,8 @@ const NO_ROW: CodeRow<u32> = CodeRow {
 
 // The verdict on a run file, by tables of its own.
 pub fn audit_alone(bytes: &[u8]) -> Verdict
-    ensures { λ r. ⌜ r ≡ verdict-of (now (bytes .entry)) ⌝ }
+    ensures verdict { λ r. ⌜ r ≡ verdict-of (now (bytes .entry)) ⌝ }
+    ensures ok { λ r. ⌜ ((n : ℕ) → r ≡ verdict.Ok n → Accepted (now (bytes .entry)) fresh n) ⌝ }
 {
     let mut words = [0u32; 1024];
     let mut cards = [NO_CARD; 8];

@@ -9,5 +9,5 @@ returns c =
     let l = c .audit-over .last in
     record {
       audited = search needs;
-      ok = λ n h. ok-by _ _ (record { answer = Ok (c .audit-over .result); left = tables (l .words) (l .cards) (l .code) (l .cells) (l .steps) }) n (search needs) h
+      ok = λ n h. ok-by _ _ (record { answer = Ok (c .audit-over .result); left = tables (l .words) (l .cards) (l .code) (l .cells) (l .steps) }) n (search needs) h;
     }
