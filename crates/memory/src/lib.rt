@@ -3,5 +3,6 @@ pub mod byte_table;
 pub mod copying;
 pub mod fault;
 pub mod interface;
+pub mod origin;
 pub mod word;
 pub mod word_table;
