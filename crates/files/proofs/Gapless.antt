@@ -30,7 +30,7 @@ gapless-end bs zero n at e = refl
 gapless-end bs (suc k) n at e = absurd (omega arith)
 
 -- the runs begin inside the file
-begins-inside : (bs : List ℕ) (k n at : ℕ) → gapless bs k n at ≡ true → at ≤ length bs
+pub begins-inside : (bs : List ℕ) (k n at : ℕ) → gapless bs k n at ≡ true → at ≤ length bs
 unfolding gapless
 begins-inside bs zero n at e = let h = eqb-true at (length bs) e in omega arith
 begins-inside bs (suc k) n at e =

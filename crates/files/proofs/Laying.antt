@@ -21,7 +21,7 @@ pub record Bounded (h : Fields) : Type 0 where
   pub known-code : h .code ≤ 6
   pub few-entries : h .entries ≤ 512
 
-bounded-from : (h : Fields) → in-bounds h ≡ true → Bounded h
+pub bounded-from : (h : Fields) → in-bounds h ≡ true → Bounded h
 bounded-from h e =
     let p = and-parts (cards-fit h && size-fits h && order-known h) (entries-fit h) e in
     let q = and-parts (cards-fit h && size-fits h) (order-known h) (p .0) in
@@ -39,6 +39,7 @@ bounded-from h e =
 
 -- its offsets are those of the layout, in a file of `len` bytes
 pub record Placed (h : Fields) (len : ℕ) : Type 0 where
+  pub words : h .«words_at» ≡ 32
   pub entries : h .«entries_at» ≡ entries-start h
   pub steps : h .«steps_at» ≡ steps-start h
   pub end : file-end h ≡ len
@@ -47,8 +48,10 @@ placed-from : (h : Fields) (len : ℕ) → laid-out h len ≡ true → Placed h 
 placed-from h len e =
     let p = and-parts (words-placed h && entries-placed h && steps-placed h) (eqb (file-end h) len) e in
     let q = and-parts (words-placed h && entries-placed h) (steps-placed h) (p .0) in
+    let r = and-parts (words-placed h) (entries-placed h) (q .0) in
     record {
-      entries = eqb-true (h .«entries_at») (entries-start h) (and-parts (words-placed h) (entries-placed h) (q .0) .1);
+      words = eqb-true (h .«words_at») 32 (r .0);
+      entries = eqb-true (h .«entries_at») (entries-start h) (r .1);
       steps = eqb-true (h .«steps_at») (steps-start h) (q .1);
       end = eqb-true (file-end h) len (p .1);
     }
@@ -67,7 +70,7 @@ pub by-ends : (bs : List ℕ) (a e at n : ℕ) → a ≡ at → e ≡ at + n →
 by-ends bs a e at n p q = let k : e - a ≡ n = omega arith in rw (k, p)
 
 -- a part that lies inside has its length
-length-part : (bs : List ℕ) (at n : ℕ) → at + n ≤ length bs → length (part bs at n) ≡ n
+pub length-part : (bs : List ℕ) (at n : ℕ) → at + n ≤ length bs → length (part bs at n) ≡ n
 length-part bs at n h = simp (length-take, length-drop) (omega arith)
 
 -- the lengths of the sections

@@ -1,4 +1,11 @@
+pub mod DayReadBack
+pub mod DayWrittenBack
+pub mod Days
 pub mod Gapless
 pub mod Laying
 pub mod Numbers
+pub mod Putting
+pub mod ReadBack
+pub mod Recording
 pub mod Turns
+pub mod WrittenBack

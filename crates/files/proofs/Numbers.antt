@@ -10,7 +10,7 @@ use Rattle.memory.specs.Bytes.{fourBytes, wordsOf}
 use Rattle.files.specs.Bytes.{number-at}
 
 -- a number behind the first k bytes
-number-after : (bs : List ℕ) (k i : ℕ) → number-at (drop k bs) i ≡ number-at bs (k + i)
+pub number-after : (bs : List ℕ) (k i : ℕ) → number-at (drop k bs) i ≡ number-at bs (k + i)
 unfolding number-at
 number-after bs k i = simp (getD-drop, add-assoc)
 

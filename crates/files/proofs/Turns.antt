@@ -39,12 +39,12 @@ fault-end d bs zero k e = refl
 fault-end d bs (suc m) k e = absurd (omega arith)
 
 -- the parts of a list of records
-parts-of : {R : Type 0} (k : ℕ) (r : Result R RecordFault) (rest : Result (List R) BadRecord) (x : R) (xs : List R) → and-then k r rest ≡ Ok (x ∷ xs) → (r ≡ Ok x) × (rest ≡ Ok xs)
+pub parts-of : {R : Type 0} (k : ℕ) (r : Result R RecordFault) (rest : Result (List R) BadRecord) (x : R) (xs : List R) → and-then k r rest ≡ Ok (x ∷ xs) → (r ≡ Ok x) × (rest ≡ Ok xs)
 parts-of k (Ok y) (Ok ys) x xs e = (cc, cc)
 parts-of k (Ok y) (Err b) x xs e = let z : _≡_ {A = ℕ} 0 1 = cc in absurd (omega arith)
 parts-of k (Err f) rest x xs e = let z : _≡_ {A = ℕ} 0 1 = cc in absurd (omega arith)
 
-never-none : {R : Type 0} (k : ℕ) (r : Result R RecordFault) (rest : Result (List R) BadRecord) → and-then k r rest ≡ Ok [] → ⊥
+pub never-none : {R : Type 0} (k : ℕ) (r : Result R RecordFault) (rest : Result (List R) BadRecord) → and-then k r rest ≡ Ok [] → ⊥
 never-none k (Ok y) (Ok ys) e = let z : _≡_ {A = ℕ} 0 1 = cc in omega arith
 never-none k (Ok y) (Err b) e = let z : _≡_ {A = ℕ} 0 1 = cc in omega arith
 never-none k (Err f) rest e = let z : _≡_ {A = ℕ} 0 1 = cc in omega arith

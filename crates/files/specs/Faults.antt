@@ -9,6 +9,8 @@ use Rattle.files.specs.declared.read.ReadFault.{ReadFault}
 use Rattle.files.specs.declared.read.ReadFault.the-variants as of-read
 use Rattle.files.specs.declared.records.RecordFault.{RecordFault}
 use Rattle.files.specs.declared.records.RecordFault.the-variants as of-record
+use Rattle.files.specs.declared.write_fault.WriteFault.{WriteFault}
+use Rattle.files.specs.declared.write_fault.WriteFault.the-variants as of-write
 
 -- a header is against the layout or the bounds
 abbrev pub header-fault-number : HeaderFault → ℕ
@@ -38,6 +40,11 @@ read-fault-place (of-read.Header f) = 0
 read-fault-place of-read.TooShort = 0
 read-fault-place (of-read.Entry p f) = p
 read-fault-place (of-read.Step p f) = p
+
+-- writing a file: what is handed makes no legal header, or a table too short
+abbrev pub write-fault-number : WriteFault → ℕ
+write-fault-number (of-write.Header f) = header-fault-number f
+write-fault-number of-write.TooShort = 1
 
 -- all that a refusal tells
 pub record Refusal : Type 0 where

@@ -1,8 +1,12 @@
 pub mod Bytes
 pub mod Day
+pub mod DayWriting
+pub mod Encoding
 pub mod Faults
 pub mod Header
 pub mod Reading
 pub mod Records
+pub mod RoundTrip
 pub mod Run
 pub mod Sections
+pub mod Writing

@@ -11,9 +11,9 @@ ghost use mathlib.Core.Path.{_≡_};
 use crate::bytes::number_at;
 use crate::header::HeaderFault;
 
-const MAX_DAY_BYTES: usize = 65536;
+pub(crate) const MAX_DAY_BYTES: usize = 65536;
 
-const MAX_RUNS: usize = 32;
+pub(crate) const MAX_RUNS: usize = 32;
 
 // The bytes of one run file, with its place in the day.
 #[derive(Clone, Copy)]

@@ -13,9 +13,9 @@ pub(crate) const HEADER_BYTES: usize = 32;
 
 const MAX_CARDS: u32 = 8;
 
-const MAX_SIZE: u32 = 1024;
+pub(crate) const MAX_SIZE: u32 = 1024;
 
-const MAX_ENTRIES: u32 = 512;
+pub(crate) const MAX_ENTRIES: u32 = 512;
 
 const LAST_CODE: u32 = 6;
 

@@ -1,8 +1,10 @@
-// The sample day, read part for part.
+// The sample day, read part for part, and written again.
 use crate::day::DayFile;
+use crate::day_write::write_day;
 use crate::read::read_run;
 use crate::records::CardEntry;
 use crate::step::Step;
+use crate::write::write_run;
 use orders::chosen::AnyOrder;
 use orders::entries::Entry;
 use orders::entries::Mark;
@@ -78,4 +80,51 @@ fn sample_run() -> Result<(), Fail> {
     check(words == [7, 9] && is_load(entries[0]) && !is_load(entries[1]))?;
     check(is_step(steps[0], 1, 0) && is_step(steps[1], 1, 1) && is_step(steps[2], 1, 2))?;
     check(is_step(steps[3], 3, 0) && is_step(steps[4], 2, 3) && is_step(steps[5], 5, 9))
+}
+
+// Each table has one byte more than the file needs, which stays.
+#[test]
+fn sample_written() -> Result<(), Fail> {
+    let entries = [CardEntry {
+        card: 0,
+        entry: Entry::Load {
+            mark: Mark::Plain,
+            address: 0,
+        },
+    }];
+    let steps = [
+        Step::Perform {
+            card: 0,
+            position: 0,
+        },
+        Step::Perform {
+            card: 0,
+            position: 1,
+        },
+        Step::Perform {
+            card: 0,
+            position: 2,
+        },
+        Step::Cache {
+            card: 0,
+            address: 0,
+        },
+        Step::PerformRecorded {
+            card: 0,
+            position: 3,
+            word: 7,
+        },
+    ];
+    let mut run = [9; 109];
+    let len = write_run(Some(AnyOrder::Sc), 1, &[7], &entries, &steps, &mut run)
+        .ok()
+        .ok_or("the run is not written")?;
+    check(len == 108 && run[108] == 9)?;
+    check(&run[0..108] == &DAY[12..120])?;
+    let mut day = [9; 121];
+    let end = write_day(&[&run[0..108]], &mut day)
+        .ok()
+        .ok_or("the day is not written")?;
+    check(end == 120 && day[120] == 9)?;
+    check(&day[0..120] == &DAY[0..120])
 }
