@@ -1,4 +1,5 @@
 // The audit of one run file: are its records, taken in turn, all accepted?
+#![tactic(auto)]
 pub mod alone;
 pub mod audit;
 mod entries;

@@ -1,5 +1,5 @@
 -- Which earlier instruction binds which later one.
-use Rattle.std.specs.Prelude.{ℕ, Bool, true, false, ◌&&◌, ◌==◌}
+use Rattle.std.specs.Prelude.{Bool, true, false, ◌&&◌, ◌==◌}
 use Rattle.crf.specs.Spans.{within}
 use Rattle.crf.specs.declared.instruction.FenceKind.{FenceKind}
 use Rattle.crf.specs.declared.instruction.FenceKind.TheVariants.{Rr, Rw, Wr, Ww}

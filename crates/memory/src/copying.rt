@@ -8,7 +8,7 @@ use crate::word::Word;
 
 fn copy_word<W: Word, M: Memory<Word = W>>(memory: &M, words: &mut [W], address: u32)
     requires { address < length words.old }
-    ensures { words.new ≡ word_copied (read_of (meaning memory.now) address) address words.old }
+    ensures { words.new ≡ word_copied (read_of (M.meaning memory.now) address) address words.old }
 {
     if let Ok(word) = memory.read(address) {
         words[address as usize] = word;
@@ -17,7 +17,7 @@ fn copy_word<W: Word, M: Memory<Word = W>>(memory: &M, words: &mut [W], address:
 
 // Copies the words into the first rows, as many as there are rows and words.
 pub fn copy_words<W: Word, M: Memory<Word = W>>(memory: &M, words: &mut [W])
-    ensures { words.new ≡ laid_over (meaning memory.now) words.old }
+    ensures { words.new ≡ laid_over (M.meaning memory.now) words.old }
 {
     let count = (memory.size() as usize).min(words.len());
     for address in 0..count {

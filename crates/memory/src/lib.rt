@@ -1,4 +1,6 @@
 // Word kinds, and memories: lists of words that are read and written by address.
+#![tactic(auto)]
+
 pub mod byte_table;
 pub mod copying;
 pub mod fault;

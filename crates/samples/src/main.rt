@@ -1,4 +1,5 @@
 // Prints, for each day file of the folder that it is run in, the file's name and its report.
+#![tactic(auto)]
 use anyhow::anyhow;
 use report::whole::{REPORT_BYTES, day_text};
 use std::fs;

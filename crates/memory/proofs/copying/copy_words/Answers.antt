@@ -7,7 +7,7 @@ loop-address-init g c = laid_none (g.M.Memory.meaning c.args.memory.now) c.args.
 
 pub loop-address-preserved : goal.loop-address-preserved
 loop-address-preserved g c =
-    copied_more (g.M.Memory.meaning c.args.memory.now) c.args.words.now c.loop-address.words _ c.loop-address.address (omega arith) (omega arith) c.loop-address.invariant c.copy-word.ensures
+    copied_more (g.M.Memory.meaning c.args.memory.now) c.args.words.now c.loop-address.words _ c.loop-address.address (omega arith) (omega arith) c.loop-address.invariant c.copy_word.ensures
 
 pub returns : goal.returns
 returns g c = c.loop-address.invariant ∙ laid_all (g.M.Memory.meaning c.args.memory.now) c.args.words.now c.loop-address.address (omega arith)

@@ -6,5 +6,5 @@ use Rattle.memory.proofs.word_table.word_at.Goals as goal
 pub returns : goal.returns
 returns g c = search (rules, shows, answers)
 
-pub returns-then-address-shown-size : goal.returns-then-address-shown-size
-returns-then-address-shown-size g c = search (rules, shows, answers)
+pub returns-then-address-shown_size : goal.returns-then-address-shown_size
+returns-then-address-shown_size g c = search (rules, shows, answers)

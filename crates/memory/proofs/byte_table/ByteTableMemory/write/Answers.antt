@@ -4,8 +4,8 @@ use Rattle.memory.proofs.Meaning.{answers}
 use Rattle.memory.proofs.Bytes.{length-words_of, bytes_write, table_in, table_out}
 use Rattle.memory.proofs.byte_table.ByteTableMemory.write.Goals as goal
 
-pub put-number-requires : goal.put-number-requires
-put-number-requires c = search (rules, shows, length-words_of)
+pub put_number-requires : goal.put_number-requires
+put_number-requires c = search (rules, shows, length-words_of)
 
 pub returns-then-address-size : goal.returns-then-address-size
 returns-then-address-size c = search (rules, shows, answers, table_out)

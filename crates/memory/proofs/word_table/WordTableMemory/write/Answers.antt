@@ -3,8 +3,8 @@ use Rattle.memory.specs.Shown.{shows, shown-length}
 use Rattle.memory.proofs.Meaning.{answers}
 use Rattle.memory.proofs.word_table.WordTableMemory.write.Goals as goal
 
-pub offset-bounds-self-address : goal.offset-bounds-self-address
-offset-bounds-self-address g c =
+pub offset_bounds-self-address : goal.offset_bounds-self-address
+offset_bounds-self-address g c =
     let lt : c.args.address < length c.args.self.now.words.now = omega (arith, shown-length c.args.self.now.words.now) in search rules
 
 pub bounds-self-address : goal.bounds-self-address
