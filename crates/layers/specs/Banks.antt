@@ -1,5 +1,5 @@
 -- What two banks show together, and what a write leaves in each.
-use Rattle.std.specs.Prelude.{◌≡◌, ℕ, ◌/◌, ◌%◌, ◌≤◌, cond, ◌&&◌, List, [], ◌∷◌, length, ◌==◌, nat_lt, slice_set}
+use Rattle.std.specs.Prelude.{ℕ, ◌/◌, ◌%◌, ◌≤◌, cond, ◌&&◌, List, [], ◌∷◌, length, ◌==◌, nat_lt, slice_set}
 use Rattle.memory.specs.Meaning.{shown}
 use Rattle.memory.specs.Shown.{shown_bounded}
 

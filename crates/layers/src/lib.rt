@@ -1,5 +1,6 @@
 // Memories that stand over memories: each holds the memory below, and is one itself.
 #![tactic(auto)]
+
 pub mod banks;
 pub mod held;
 pub mod stacks;

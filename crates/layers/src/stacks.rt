@@ -16,9 +16,9 @@ use memory::word_table::WordTable;
 
 // Exchanges the words at two addresses.
 pub fn swap_words<M: Memory>(memory: &mut M, a: u32, b: u32) -> Result<(), MemoryFault>
-    ensures answer { result ≡ swap_of (meaning memory.old) a b }
-    ensures meaning { meaning memory.new ≡ swapped (meaning memory.old) a b }
-    ensures fixed { fixed memory.new ≡ fixed memory.old }
+    ensures answer { result ≡ swap_of (M.meaning memory.old) a b }
+    ensures meaning { M.meaning memory.new ≡ swapped (M.meaning memory.old) a b }
+    ensures fixed { M.fixed memory.new ≡ M.fixed memory.old }
 {
     let at_a = memory.read(a)?;
     let at_b = memory.read(b)?;

@@ -53,8 +53,8 @@ fn held_at<W: Word>(held: Held<W>, address: u32) -> Option<W>
 
 // Writes a held word below, unless it is held for the address that is written now.
 fn send_down<M: Memory>(below: &mut M, held: Held<M::Word>, address: u32)
-    ensures meaning { meaning below.new ≡ sent_down held (meaning below.old) address }
-    ensures fixed { fixed below.new ≡ fixed below.old }
+    ensures meaning { M.meaning below.new ≡ sent_down held (M.meaning below.old) address }
+    ensures fixed { M.fixed below.new ≡ M.fixed below.old }
 {
     if let Held::Kept { address: at, word } = held {
         if at != address {

@@ -1,5 +1,6 @@
 // Entries of a program, the six memory orders, and the translation of entries into instructions.
 #![tactic(auto)]
+
 pub mod chosen;
 pub mod entries;
 pub mod fences;

@@ -126,7 +126,7 @@ pub fn translate<W: Copy, O: MemoryOrder>(
     order: &O,
     entry: Entry<W>,
 ) -> Result<Translation<W>, TranslationFault>
-    ensures { Translates (taken order.now (shape_of entry)) (translated (ahead order.now) (behind order.now) entry) result }
+    ensures { Translates (O.taken order.now (shape_of entry)) (translated (O.ahead order.now) (O.behind order.now) entry) result }
 {
     let shape = entry.shape();
     if !order.takes(shape) {

@@ -7,8 +7,8 @@ use Rattle.layers.proofs.window.WindowMemory.read.Goals as goal
 pub returns-then-address-size : goal.returns-then-address-size
 returns-then-address-size g c = search (rules, read_out)
 
-pub overflow-add-self : goal.overflow-add-self
-overflow-add-self g c = let b = g.M.Memory.bounded c.args.self.now.below in search (rules, length-window_of)
+pub overflow_add-self : goal.overflow_add-self
+overflow_add-self g c = let b = g.M.Memory.bounded c.args.self.now.below in search (rules, length-window_of)
 
 pub returns : goal.returns
 returns g c = search (rules, window_read)
