@@ -20,7 +20,7 @@ fn take_entry<M: Memory<Word = u32>>(
     file: &RunFile<'_>,
     n: usize,
 ) -> Result<(), RowFault>
-    ensures taken { record { answer = result; after = draft_of meaning draft.new cards.new code.new } ≡ entry_one draft.old.order file.now.entries.now n (draft_of meaning draft.old cards.old code.old) }
+    ensures taken { record { answer = result; after = draft_of M.meaning draft.new cards.new code.new } ≡ entry_one draft.old.order file.now.entries.now n (draft_of M.meaning draft.old cards.old code.old) }
     ensures same { draft.new ≡ draft.old }
 {
     let CardEntry { card, entry } = file.entry(n)?;
@@ -36,7 +36,7 @@ pub(crate) fn take_entries<M: Memory<Word = u32>>(
     file: &RunFile<'_>,
     count: u32,
 ) -> Result<(), Stop>
-    ensures worked { record { after = draft_of meaning draft.new cards.new code.new; stopped = stop_in result } ≡ worked (entry_one draft.old.order file.now.entries.now) count 0 (draft_of meaning draft.old cards.old code.old) }
+    ensures worked { record { after = draft_of M.meaning draft.new cards.new code.new; stopped = stop_in result } ≡ worked (entry_one draft.old.order file.now.entries.now) count 0 (draft_of M.meaning draft.old cards.old code.old) }
     ensures same { draft.new ≡ draft.old }
 {
     for n in 0..count {

@@ -40,7 +40,7 @@ fn run_steps<M: Memory<Word = u32>>(
     steps: &mut [StepRow<u32>],
     file: &RunFile<'_>,
 ) -> Done<M>
-    ensures { record { verdict = result.verdict; left = tables (meaning result.memory) cards.new code.new cells.new steps.new } ≡ steps_audited file.now.steps.now file.now.header.steps (world_of meaning run cards.old code.old cells.old steps.old) }
+    ensures { record { verdict = result.verdict; left = tables (M.meaning result.memory) cards.new code.new cells.new steps.new } ≡ steps_audited file.now.steps.now file.now.header.steps (world_of M.meaning run cards.old code.old cells.old steps.old) }
 {
     let stopped = take_steps(&mut run, cards, code, cells, steps, file, file.header.steps);
     let verdict = verdict_of(stopped, run.used());
@@ -59,8 +59,8 @@ fn start_steps<M: Memory<Word = u32>>(
     steps: &mut [StepRow<u32>],
     file: &RunFile<'_>,
 ) -> Done<M>
-    requires { draft.count * length (meaning draft.memory) ≤ length cells.old }
-    ensures { record { verdict = result.verdict; left = tables (meaning result.memory) cards.new code.new cells.new steps.new } ≡ steps_audited file.now.steps.now file.now.header.steps (started (draft_of meaning draft cards.old code.old) cells.old steps.old) }
+    requires { draft.count * length (M.meaning draft.memory) ≤ length cells.old }
+    ensures { record { verdict = result.verdict; left = tables (M.meaning result.memory) cards.new code.new cells.new steps.new } ≡ steps_audited file.now.steps.now file.now.header.steps (started (draft_of M.meaning draft cards.old code.old) cells.old steps.old) }
 {
     match draft.start(cells) {
         Err(Unstarted { draft, why: _ }) => Done {
@@ -80,8 +80,8 @@ fn draft_records<M: Memory<Word = u32>>(
     steps: &mut [StepRow<u32>],
     file: &RunFile<'_>,
 ) -> Done<M>
-    requires { draft.count * length (meaning draft.memory) ≤ length cells.old }
-    ensures { record { verdict = result.verdict; left = tables (meaning result.memory) cards.new code.new cells.new steps.new } ≡ draft_audited draft.order file.now.header file.now.entries.now file.now.steps.now (draft_of meaning draft cards.old code.old) cells.old steps.old }
+    requires { draft.count * length (M.meaning draft.memory) ≤ length cells.old }
+    ensures { record { verdict = result.verdict; left = tables (M.meaning result.memory) cards.new code.new cells.new steps.new } ≡ draft_audited draft.order file.now.header file.now.entries.now file.now.steps.now (draft_of M.meaning draft cards.old code.old) cells.old steps.old }
 {
     match take_entries(&mut draft, cards, code, file, file.header.entries) {
         Err(stop) => Done {
@@ -101,9 +101,9 @@ pub(crate) fn work_records<M: Memory<Word = u32>>(
     steps: &mut [StepRow<u32>],
     file: &RunFile<'_>,
 ) -> Done<M>
-    requires bounds { (1 ≤ file.now.header.cards) × ((file.now.header.cards ≤ 8) × ((1 ≤ length (meaning memory)) × (length (meaning memory) ≤ 1024))) }
-    requires room { (file.now.header.cards ≤ length cards.old) × (file.now.header.cards * length (meaning memory) ≤ length cells.old) }
-    ensures { record { verdict = result.verdict; left = tables (meaning result.memory) cards.new code.new cells.new steps.new } ≡ records_audited file.now.header file.now.entries.now file.now.steps.now (tables (meaning memory) cards.old code.old cells.old steps.old) }
+    requires bounds { (1 ≤ file.now.header.cards) × ((file.now.header.cards ≤ 8) × ((1 ≤ length (M.meaning memory)) × (length (M.meaning memory) ≤ 1024))) }
+    requires room { (file.now.header.cards ≤ length cards.old) × (file.now.header.cards * length (M.meaning memory) ≤ length cells.old) }
+    ensures { record { verdict = result.verdict; left = tables (M.meaning result.memory) cards.new code.new cells.new steps.new } ≡ records_audited file.now.header file.now.entries.now file.now.steps.now (tables (M.meaning memory) cards.old code.old cells.old steps.old) }
 {
     match Draft::open(memory, file.header.memory_order(), file.header.cards, cards) {
         Err(

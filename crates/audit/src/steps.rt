@@ -21,7 +21,7 @@ fn work_step<M: Memory<Word = u32>>(
     steps: &mut [StepRow<u32>],
     step: Step,
 ) -> Result<(), StepFault>
-    ensures { record { answer = step_from result; after = world_of meaning run.new cards.new code.new cells.new steps.new } ≡ stepped (world_of meaning run.old cards.old code.old cells.old steps.old) step }
+    ensures { record { answer = step_from result; after = world_of M.meaning run.new cards.new code.new cells.new steps.new } ≡ stepped (world_of M.meaning run.old cards.old code.old cells.old steps.old) step }
 {
     match step {
         Step::Perform { card, position } => match run.perform(
@@ -66,7 +66,7 @@ fn take_step<M: Memory<Word = u32>>(
     file: &RunFile<'_>,
     n: usize,
 ) -> Result<(), RowFault>
-    ensures { record { answer = result; after = world_of meaning run.new cards.new code.new cells.new steps.new } ≡ step_one file.now.steps.now n (world_of meaning run.old cards.old code.old cells.old steps.old) }
+    ensures { record { answer = result; after = world_of M.meaning run.new cards.new code.new cells.new steps.new } ≡ step_one file.now.steps.now n (world_of M.meaning run.old cards.old code.old cells.old steps.old) }
 {
     let step = file.step(n)?;
     work_step(run, cards, code, cells, steps, step)?;
@@ -83,7 +83,7 @@ pub(crate) fn take_steps<M: Memory<Word = u32>>(
     file: &RunFile<'_>,
     count: u32,
 ) -> Result<(), Stop>
-    ensures { record { after = world_of meaning run.new cards.new code.new cells.new steps.new; stopped = stop_in result } ≡ worked (step_one file.now.steps.now) count 0 (world_of meaning run.old cards.old code.old cells.old steps.old) }
+    ensures { record { after = world_of M.meaning run.new cards.new code.new cells.new steps.new; stopped = stop_in result } ≡ worked (step_one file.now.steps.now) count 0 (world_of M.meaning run.old cards.old code.old cells.old steps.old) }
 {
     for n in 0..count {
         match take_step(run, cards, code, cells, steps, file, n as usize) {

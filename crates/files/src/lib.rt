@@ -1,5 +1,6 @@
 // Reading and writing run files and day files.
 #![tactic(auto)]
+
 mod bytes;
 pub mod day;
 pub mod day_write;

@@ -64,9 +64,9 @@ impl<'a> Written for &'a [u8] {
 
 // Puts rows from byte `at` on, one behind the other, and answers where they end.
 pub(crate) fn put_all<R: Written>(rows: &[R], out: &mut [u8], at: usize) -> usize
-    requires { at + length (flat_map encoded rows.now) ≤ length out.old }
-    ensures end { result ≡ at + length (flat_map encoded rows.now) }
-    ensures put { out.new ≡ written_at out.old at (flat_map encoded rows.now) }
+    requires { at + length (flat_map R.encoded rows.now) ≤ length out.old }
+    ensures end { result ≡ at + length (flat_map R.encoded rows.now) }
+    ensures put { out.new ≡ written_at out.old at (flat_map R.encoded rows.now) }
 {
     let mut next = at;
     for n in 0..rows.len() {

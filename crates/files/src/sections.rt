@@ -53,7 +53,7 @@ impl Record for Step {
 
 // The n-th record of a section; where it has not 12 bytes there, it is refused.
 pub(crate) fn record_at<R: Record>(section: &[u8], n: usize) -> Result<R, RecordFault>
-    ensures { result ≡ decoded (part section.now (12 * n) 12) }
+    ensures { result ≡ R.decoded (part section.now (12 * n) 12) }
 {
     if n >= section.len() / RECORD_BYTES {
         return Err(RecordFault::Field);
@@ -64,7 +64,7 @@ pub(crate) fn record_at<R: Record>(section: &[u8], n: usize) -> Result<R, Record
 
 // Refuses the first of `count` records that is against the layout.
 pub(crate) fn check_records<R: Record>(section: &[u8], count: u32) -> Result<(), BadRecord>
-    ensures { MatchResult result (λ _. fault_in (records_of decoded section.now count) ≡ None) (λ b. fault_in (records_of decoded section.now count) ≡ Some b) }
+    ensures { MatchResult result (λ _. fault_in (records_of R.decoded section.now count) ≡ None) (λ b. fault_in (records_of R.decoded section.now count) ≡ Some b) }
 {
     for n in 0..count {
         if let Err(fault) = record_at::<R>(section, n as usize) {
@@ -77,7 +77,7 @@ pub(crate) fn check_records<R: Record>(section: &[u8], count: u32) -> Result<(),
 // Puts `count` records, none of which is refused, into the first rows.
 pub(crate) fn records_into<R: Record>(section: &[u8], count: u32, rows: &mut [R])
     requires { count ≤ length rows.old }
-    ensures { (xs : List R) → records_of decoded section.now count ≡ Ok xs → rows.new ≡ laid_over xs rows.old }
+    ensures { (xs : List R) → records_of R.decoded section.now count ≡ Ok xs → rows.new ≡ laid_over xs rows.old }
 {
     for n in 0..count as usize {
         if let Ok(record) = record_at(section, n) {

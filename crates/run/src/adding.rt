@@ -65,7 +65,7 @@ fn place_for<W: Word, O: MemoryOrder>(
     held: CardRecord,
     entry: Entry<W>,
 ) -> Result<Place<W>, ProgramFault>
-    ensures { MatchResult result (λ p. (Ok held ≡ placed (taken order.now) (ahead order.now) (behind order.now) size held entry) × (p.held ≡ held) × (instructions p.translation ≡ translated (ahead order.now) (behind order.now) entry)) (λ e. Err e ≡ placed (taken order.now) (ahead order.now) (behind order.now) size held entry) }
+    ensures { MatchResult result (λ p. (Ok held ≡ placed (O.taken order.now) (O.ahead order.now) (O.behind order.now) size held entry) × (p.held ≡ held) × (instructions p.translation ≡ translated (O.ahead order.now) (O.behind order.now) entry)) (λ e. Err e ≡ placed (O.taken order.now) (O.ahead order.now) (O.behind order.now) size held entry) }
 {
     if !is_near(size, entry) {
         return Err(ProgramFault::NoSuchAddress);
@@ -151,7 +151,7 @@ impl<W: Word, M: Memory<Word = W>, O: MemoryOrder> Draft<W, M, O> {
         code: &[CodeRow<W>],
         card: u32,
     ) -> Result<CardRecord, ProgramFault>
-        ensures is { result ≡ card_held (draft_of meaning self.now cards.now code.now) card }
+        ensures is { result ≡ card_held (draft_of M.meaning self.now cards.now code.now) card }
         ensures known { OnOk result (card < 8) }
     {
         if self.count as usize > cards.len() || 256 * self.count as usize > code.len() {
@@ -170,7 +170,7 @@ impl<W: Word, M: Memory<Word = W>, O: MemoryOrder> Draft<W, M, O> {
         card: u32,
         entry: Entry<W>,
     ) -> Result<Place<W>, ProgramFault>
-        ensures is { MatchResult result (λ p. (Ok p.held ≡ addable (taken self.now.order) (ahead self.now.order) (behind self.now.order) (draft_of meaning self.now cards.now code.now) card entry) × (instructions p.translation ≡ translated (ahead self.now.order) (behind self.now.order) entry)) (λ e. Err e ≡ addable (taken self.now.order) (ahead self.now.order) (behind self.now.order) (draft_of meaning self.now cards.now code.now) card entry) }
+        ensures is { MatchResult result (λ p. (Ok p.held ≡ addable (O.taken self.now.order) (O.ahead self.now.order) (O.behind self.now.order) (draft_of M.meaning self.now cards.now code.now) card entry) × (instructions p.translation ≡ translated (O.ahead self.now.order) (O.behind self.now.order) entry)) (λ e. Err e ≡ addable (O.taken self.now.order) (O.ahead self.now.order) (O.behind self.now.order) (draft_of M.meaning self.now cards.now code.now) card entry) }
         ensures known { OnOk result (card < 8) }
     {
         match self.card_held(cards, code, card) {
@@ -187,7 +187,7 @@ impl<W: Word, M: Memory<Word = W>, O: MemoryOrder> Draft<W, M, O> {
         card: u32,
         entry: Entry<W>,
     ) -> Result<(), ProgramFault>
-        ensures draft { record { answer = result; after = draft_of meaning self.new cards.new code.new } ≡ added (taken self.old.order) (ahead self.old.order) (behind self.old.order) (draft_of meaning self.old cards.old code.old) card entry }
+        ensures draft { record { answer = result; after = draft_of M.meaning self.new cards.new code.new } ≡ added (O.taken self.old.order) (O.ahead self.old.order) (O.behind self.old.order) (draft_of M.meaning self.old cards.old code.old) card entry }
         ensures same { self.new ≡ self.old }
     {
         match self.may_add(cards, code, card, entry) {
@@ -206,7 +206,7 @@ impl<W: Word, M: Memory<Word = W>, O: MemoryOrder> Draft<W, M, O> {
         card: u32,
         instruction: Instruction<W>,
     ) -> Result<CardRecord, ProgramFault>
-        ensures is { result ≡ raw_addable (draft_of meaning self.now cards.now code.now) card instruction }
+        ensures is { result ≡ raw_addable (draft_of M.meaning self.now cards.now code.now) card instruction }
         ensures known { IfOk result (λ h. (card < 8) × (h.length < 256)) }
     {
         match self.card_held(cards, code, card) {
@@ -223,7 +223,7 @@ impl<W: Word, M: Memory<Word = W>, O: MemoryOrder> Draft<W, M, O> {
         card: u32,
         instruction: Instruction<W>,
     ) -> Result<(), ProgramFault>
-        ensures draft { record { answer = result; after = draft_of meaning self.new cards.new code.new } ≡ raw_added (draft_of meaning self.old cards.old code.old) card instruction }
+        ensures draft { record { answer = result; after = draft_of M.meaning self.new cards.new code.new } ≡ raw_added (draft_of M.meaning self.old cards.old code.old) card instruction }
         ensures memory { self.new.memory ≡ self.old.memory }
         ensures order { self.new.order ≡ self.old.order }
     {

@@ -30,8 +30,8 @@ impl<W: Word, M: Memory<Word = W>> Running<W, M> {
         card: u32,
         address: u32,
     ) -> Result<Cell<W>, StepFault>
-        ensures is { result ≡ reached (world_of meaning self.now cards.now code.now cells.now steps.now) card address }
-        ensures known { OnOk result ((card < 8) × (address < length (meaning self.now.memory))) }
+        ensures is { result ≡ reached (world_of M.meaning self.now cards.now code.now cells.now steps.now) card address }
+        ensures known { OnOk result ((card < 8) × (address < length (M.meaning self.now.memory))) }
     {
         match self.known_card(cards, code, cells, steps, card) {
             Err(why) => Err(why),
@@ -48,7 +48,7 @@ impl<W: Word, M: Memory<Word = W>> Running<W, M> {
         card: u32,
         address: u32,
     ) -> Result<W, StepFault>
-        ensures is { result ≡ cacheable (world_of meaning self.now cards.now code.now cells.now steps.now) card address }
+        ensures is { result ≡ cacheable (world_of M.meaning self.now cards.now code.now cells.now steps.now) card address }
         ensures known { OnOk result ((card < 8) × (self.now.used < 4096)) }
     {
         match self.reach(cards, code, cells, steps, card, address) {
@@ -66,8 +66,8 @@ impl<W: Word, M: Memory<Word = W>> Running<W, M> {
         card: u32,
         address: u32,
     ) -> Result<W, StepFault>
-        ensures is { result ≡ writable (world_of meaning self.now cards.now code.now cells.now steps.now) card address }
-        ensures known { OnOk result ((card < 8) × (address < length (meaning self.now.memory)) × (self.now.used < 4096)) }
+        ensures is { result ≡ writable (world_of M.meaning self.now cards.now code.now cells.now steps.now) card address }
+        ensures known { OnOk result ((card < 8) × (address < length (M.meaning self.now.memory)) × (self.now.used < 4096)) }
     {
         match self.reach(cards, code, cells, steps, card, address) {
             Err(why) => Err(why),
@@ -84,7 +84,7 @@ impl<W: Word, M: Memory<Word = W>> Running<W, M> {
         card: u32,
         address: u32,
     ) -> Result<(), StepFault>
-        ensures is { result ≡ purgeable (world_of meaning self.now cards.now code.now cells.now steps.now) card address }
+        ensures is { result ≡ purgeable (world_of M.meaning self.now cards.now code.now cells.now steps.now) card address }
         ensures known { OnOk result ((card < 8) × (self.now.used < 4096)) }
     {
         match self.reach(cards, code, cells, steps, card, address) {
@@ -116,7 +116,7 @@ impl<W: Word, M: Memory<Word = W>> Running<W, M> {
         card: u32,
         address: u32,
     ) -> Result<(), StepFault>
-        ensures world { record { answer = result; after = world_of meaning self.new cards.new code.new cells.new steps.new } ≡ cached (world_of meaning self.old cards.old code.old cells.old steps.old) card address }
+        ensures world { record { answer = result; after = world_of M.meaning self.new cards.new code.new cells.new steps.new } ≡ cached (world_of M.meaning self.old cards.old code.old cells.old steps.old) card address }
         ensures same { self.new.memory ≡ self.old.memory }
     {
         match self.may_cache(cards, code, cells, steps, card, address) {
@@ -143,8 +143,8 @@ impl<W: Word, M: Memory<Word = W>> Running<W, M> {
         card: u32,
         address: u32,
     ) -> Result<(), StepFault>
-        ensures world { record { answer = result; after = world_of meaning self.new cards.new code.new cells.new steps.new } ≡ written_back (world_of meaning self.old cards.old code.old cells.old steps.old) card address }
-        ensures fixed { fixed self.new.memory ≡ fixed self.old.memory }
+        ensures world { record { answer = result; after = world_of M.meaning self.new cards.new code.new cells.new steps.new } ≡ written_back (world_of M.meaning self.old cards.old code.old cells.old steps.old) card address }
+        ensures fixed { M.fixed self.new.memory ≡ M.fixed self.old.memory }
     {
         match self.may_write(cards, code, cells, steps, card, address) {
             Err(why) => Err(why),
@@ -171,7 +171,7 @@ impl<W: Word, M: Memory<Word = W>> Running<W, M> {
         card: u32,
         address: u32,
     ) -> Result<(), StepFault>
-        ensures world { record { answer = result; after = world_of meaning self.new cards.new code.new cells.new steps.new } ≡ purged (world_of meaning self.old cards.old code.old cells.old steps.old) card address }
+        ensures world { record { answer = result; after = world_of M.meaning self.new cards.new code.new cells.new steps.new } ≡ purged (world_of M.meaning self.old cards.old code.old cells.old steps.old) card address }
         ensures same { self.new.memory ≡ self.old.memory }
     {
         match self.may_purge(cards, code, cells, steps, card, address) {

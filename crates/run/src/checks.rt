@@ -187,7 +187,7 @@ fn act<W: Word>(instruction: Instruction<W>, cell: Cell<W>) -> Result<Effect<W>,
 }
 
 fn same_word<W: Word>(recorded: W, loaded: W) -> Result<(), StepFault>
-    ensures { result ≡ pass (alike recorded loaded) step.WordDiffers }
+    ensures { result ≡ pass (W.alike recorded loaded) step.WordDiffers }
 {
     if recorded.same(&loaded) {
         Ok(())
@@ -198,7 +198,7 @@ fn same_word<W: Word>(recorded: W, loaded: W) -> Result<(), StepFault>
 
 // A recorded word, if there is one, is the word loaded.
 fn agrees<W: Word>(recorded: Option<W>, effect: Effect<W>) -> Result<(), StepFault>
-    ensures { result ≡ agreed alike recorded effect }
+    ensures { result ≡ agreed W.alike recorded effect }
 {
     match (recorded, effect) {
         (None, _) => Ok(()),
@@ -227,7 +227,7 @@ pub(crate) fn plan_of<W: Word>(
     used: u32,
     rows: usize,
 ) -> Result<Plan<W>, StepFault>
-    ensures is { result ≡ planned alike row cell recorded used rows }
+    ensures is { result ≡ planned W.alike row cell recorded used rows }
     ensures known { OnOk result (used < 4096) }
 {
     let effect = act(row.instruction, cell)?;
@@ -293,7 +293,7 @@ pub(crate) fn word_to_cache<W: Word, M: Memory<Word = W>>(
     used: u32,
     rows: usize,
 ) -> Result<W, StepFault>
-    ensures is { result ≡ to_cache (meaning memory.now) address cell used rows }
+    ensures is { result ≡ to_cache (M.meaning memory.now) address cell used rows }
     ensures known { OnOk result (used < 4096) }
 {
     absent(cell)?;

@@ -1,6 +1,7 @@
 // A run: a draft takes programs, a running run takes steps, a closed run is at its end.
 // The tables that a run needs are lent to each of its calls: card records, code rows, cells and step rows.
 #![tactic(auto)]
+
 mod adding;
 mod background;
 mod checks;

@@ -60,8 +60,8 @@ impl<W: Word, M: Memory<Word = W>, O: MemoryOrder> Draft<W, M, O> {
         count: u32,
         cards: &mut [CardRecord],
     ) -> Result<Draft<W, M, O>, Unopened<M, O>>
-        ensures table { cards.new ≡ records_opened count cards.old (openable count (length (meaning memory)) (length cards.old)) }
-        ensures is { MatchResult result (λ d. (Ok tt ≡ openable count (length (meaning memory)) (length cards.old)) × (d.memory ≡ memory) × (d.order ≡ order) × (d.count ≡ count) × (d.raw ≡ false)) (λ u. (Err u.why ≡ openable count (length (meaning memory)) (length cards.old)) × (u.memory ≡ memory) × (u.order ≡ order)) }
+        ensures table { cards.new ≡ records_opened count cards.old (openable count (length (M.meaning memory)) (length cards.old)) }
+        ensures is { MatchResult result (λ d. (Ok tt ≡ openable count (length (M.meaning memory)) (length cards.old)) × (d.memory ≡ memory) × (d.order ≡ order) × (d.count ≡ count) × (d.raw ≡ false)) (λ u. (Err u.why ≡ openable count (length (M.meaning memory)) (length cards.old)) × (u.memory ≡ memory) × (u.order ≡ order)) }
     {
         let size = memory.size();
         match may_open(count, size, cards.len()) {
@@ -89,7 +89,7 @@ impl<W: Word, M: Memory<Word = W>, O: MemoryOrder> Draft<W, M, O> {
 
     // A running run of the draft's programs, with all cells absent and no step taken.
     pub fn start(self, cells: &mut [Cell<W>]) -> Result<Running<W, M>, Unstarted<W, M, O>>
-        ensures { MatchResult result (λ run. (Ok tt ≡ startable self.count (length (meaning self.memory)) (length cells.old)) × (run.memory ≡ self.memory) × (run.count ≡ self.count) × (run.raw ≡ self.raw) × (run.used ≡ 0) × (cells.new ≡ filled (self.count * length (meaning self.memory)) no_cell cells.old)) (λ u. (Err u.why ≡ startable self.count (length (meaning self.memory)) (length cells.old)) × (u.draft ≡ self) × (cells.new ≡ cells.old)) }
+        ensures { MatchResult result (λ run. (Ok tt ≡ startable self.count (length (M.meaning self.memory)) (length cells.old)) × (run.memory ≡ self.memory) × (run.count ≡ self.count) × (run.raw ≡ self.raw) × (run.used ≡ 0) × (cells.new ≡ filled (self.count * length (M.meaning self.memory)) no_cell cells.old)) (λ u. (Err u.why ≡ startable self.count (length (M.meaning self.memory)) (length cells.old)) × (u.draft ≡ self) × (cells.new ≡ cells.old)) }
     {
         let size = self.memory.size();
         match may_start(self.count, size, cells.len()) {

@@ -51,7 +51,7 @@ impl<W: Word, M: Memory<Word = W>> Running<W, M> {
         steps: &[StepRow<W>],
         card: u32,
     ) -> Result<CardRecord, StepFault>
-        ensures is { result ≡ card_known (world_of meaning self.now cards.now code.now cells.now steps.now) card }
+        ensures is { result ≡ card_known (world_of M.meaning self.now cards.now code.now cells.now steps.now) card }
         ensures known { OnOk result ((card < 8) × (256 * (card + 1) ≤ length code.now)) }
     {
         let _ = steps;
@@ -76,7 +76,7 @@ impl<W: Word, M: Memory<Word = W>> Running<W, M> {
         card: u32,
         position: u32,
     ) -> Result<CodeRow<W>, StepFault>
-        ensures is { result ≡ chosen (world_of meaning self.now cards.now code.now cells.now steps.now) card position }
+        ensures is { result ≡ chosen (world_of M.meaning self.now cards.now code.now cells.now steps.now) card position }
         ensures known { OnOk result ((card < 8) × (position < 256)) }
     {
         match self.known_card(cards, code, cells, steps, card) {
@@ -95,7 +95,7 @@ impl<W: Word, M: Memory<Word = W>> Running<W, M> {
         position: u32,
         recorded: Option<W>,
     ) -> Result<Plan<W>, StepFault>
-        ensures is { result ≡ decided alike (world_of meaning self.now cards.now code.now cells.now steps.now) card position recorded }
+        ensures is { result ≡ decided W.alike (world_of M.meaning self.now cards.now code.now cells.now steps.now) card position recorded }
         ensures known { OnOk result ((card < 8) × (position < 256) × (self.now.used < 4096)) }
     {
         match self.choose(cards, code, cells, steps, card, position) {
@@ -118,7 +118,7 @@ impl<W: Word, M: Memory<Word = W>> Running<W, M> {
         plan: Plan<W>,
     )
         requires { (card < 8) × ((position < 256) × (self.old.used < 4096)) }
-        ensures world { world_of meaning self.new cards.new code.new cells.new steps.new ≡ applied (world_of meaning self.old cards.old code.old cells.old steps.old) card position plan }
+        ensures world { world_of M.meaning self.new cards.new code.new cells.new steps.new ≡ applied (world_of M.meaning self.old cards.old code.old cells.old steps.old) card position plan }
         ensures same { self.new.memory ≡ self.old.memory }
     {
         let row = plan.row;
@@ -152,7 +152,7 @@ impl<W: Word, M: Memory<Word = W>> Running<W, M> {
         position: u32,
         recorded: Option<W>,
     ) -> Result<Option<W>, StepFault>
-        ensures world { record { answer = result; after = world_of meaning self.new cards.new code.new cells.new steps.new } ≡ performed alike (world_of meaning self.old cards.old code.old cells.old steps.old) card position recorded }
+        ensures world { record { answer = result; after = world_of M.meaning self.new cards.new code.new cells.new steps.new } ≡ performed W.alike (world_of M.meaning self.old cards.old code.old cells.old steps.old) card position recorded }
         ensures same { self.new.memory ≡ self.old.memory }
     {
         match self.decide(cards, code, cells, steps, card, position, recorded) {
@@ -174,7 +174,7 @@ impl<W: Word, M: Memory<Word = W>> Running<W, M> {
         card: u32,
         position: u32,
     ) -> Result<Option<W>, StepFault>
-        ensures world { record { answer = result; after = world_of meaning self.new cards.new code.new cells.new steps.new } ≡ performed alike (world_of meaning self.old cards.old code.old cells.old steps.old) card position None }
+        ensures world { record { answer = result; after = world_of M.meaning self.new cards.new code.new cells.new steps.new } ≡ performed W.alike (world_of M.meaning self.old cards.old code.old cells.old steps.old) card position None }
         ensures same { self.new.memory ≡ self.old.memory }
     {
         self.perform_if(cards, code, cells, steps, card, position, None)
@@ -191,7 +191,7 @@ impl<W: Word, M: Memory<Word = W>> Running<W, M> {
         position: u32,
         recorded: W,
     ) -> Result<Option<W>, StepFault>
-        ensures world { record { answer = result; after = world_of meaning self.new cards.new code.new cells.new steps.new } ≡ performed alike (world_of meaning self.old cards.old code.old cells.old steps.old) card position (Some recorded) }
+        ensures world { record { answer = result; after = world_of M.meaning self.new cards.new code.new cells.new steps.new } ≡ performed W.alike (world_of M.meaning self.old cards.old code.old cells.old steps.old) card position (Some recorded) }
         ensures same { self.new.memory ≡ self.old.memory }
     {
         self.perform_if(cards, code, cells, steps, card, position, Some(recorded))

@@ -5,8 +5,8 @@ use Rattle.files.specs.DayWriting.{day_length, run_bytes}
 use Rattle.files.proofs.Days.{runs_length, next_run}
 use Rattle.files.proofs.day_write.day_length.Goals as goal
 
-pub returns-then-runs-gt-MAX-RUNS : goal.returns-then-runs-gt-MAX-RUNS
-returns-then-runs-gt-MAX-RUNS c =
+pub returns-then-runs-gt-MAX_RUNS : goal.returns-then-runs-gt-MAX_RUNS
+returns-then-runs-gt-MAX_RUNS c =
     let rs = map (λ x. x.now) c.args.runs.now in
     let l = runs_length c.args.runs.now in
     (and_left (leb (length rs) 32) (leb (day_length rs) 65536) (lt-leb (length rs) 32 (omega arith)), refl)

@@ -14,19 +14,19 @@ loop-n-init c =
     let l = runs_length c.args.runs.now in
     (sym (add-zero c.args.at), omega arith, written_none c.args.out.now c.args.at)
 
-pub overflow-cast-start : goal.overflow-cast-start
-overflow-cast-start c = let r = next_run c.args.runs.now c.loop-n.n (omega arith) in omega arith
+pub overflow_cast-start : goal.overflow_cast-start
+overflow_cast-start c = let r = next_run c.args.runs.now c.loop-n.n (omega arith) in omega arith
 
-pub overflow-cast-run : goal.overflow-cast-run
-overflow-cast-run c = let r = next_run c.args.runs.now c.loop-n.n (omega arith) in omega arith
+pub overflow_cast-run : goal.overflow_cast-run
+overflow_cast-run c = let r = next_run c.args.runs.now c.loop-n.n (omega arith) in omega arith
 
-pub put-all-next-requires : goal.put-all-next-requires
-put-all-next-requires c =
+pub put_all-next-requires : goal.put_all-next-requires
+put_all-next-requires c =
     let w = number_widths (c.loop-n.start ∷ (length (get_or c.args.runs.now c.loop-n.n no_run).now ∷ [])) in
     omega arith
 
-pub overflow-add-start-in-loop-n : goal.overflow-add-start-in-loop-n
-overflow-add-start-in-loop-n c = let r = next_run c.args.runs.now c.loop-n.n (omega arith) in omega arith
+pub overflow_add-start-in-loop-n : goal.overflow_add-start-in-loop-n
+overflow_add-start-in-loop-n c = let r = next_run c.args.runs.now c.loop-n.n (omega arith) in omega arith
 
 pub loop-n-preserved : goal.loop-n-preserved
 loop-n-preserved c =
@@ -42,8 +42,8 @@ loop-n-preserved c =
     let v = front_width (header_end rs) rs n (omega arith) in
     let here : before ++ place ≡ run_places (header_end rs) (take (n + 1) rs) =
     ap (λ s. before ++ (s ∷ (length run ∷ []))) c.loop-n.invariant.1 ∙ sym (places_next (header_end rs) rs n run (omega arith) (run_here xs n (omega arith))) in
-    let put = put_behind c.args.out.now (flat_map number_bytes before) (flat_map number_bytes place) c.loop-n.out c.put-all-next.new.out c.args.at c.loop-n.next
-    (omega arith) c.loop-n.invariant.2 (omega arith) c.put-all-next.ensures.put in
+    let put = put_behind c.args.out.now (flat_map number_bytes before) (flat_map number_bytes place) c.loop-n.out c.put_all-next.new.out c.args.at c.loop-n.next
+    (omega arith) c.loop-n.invariant.2 (omega arith) c.put_all-next.ensures.put in
     (omega arith, omega arith, put ∙ ap (λ t. written_at c.args.out.now c.args.at t) (sym (joined_append number_bytes before place) ∙ ap (flat_map number_bytes) here))
 
 pub returns : goal.returns

@@ -34,24 +34,24 @@ sized xs e =
       places = omega arith;
     }
 
-pub overflow-cast-runs : goal.overflow-cast-runs
-overflow-cast-runs c = let z = sized c.args.runs.now c.in-ok-end.ensures.0 in omega arith
+pub overflow_cast-runs : goal.overflow_cast-runs
+overflow_cast-runs c = let z = sized c.args.runs.now c.in_ok-end.ensures.0 in omega arith
 
-pub put-all-places-at-requires : goal.put-all-places-at-requires
-put-all-places-at-requires c =
-    let e = c.in-ok-end.ensures in
+pub put_all-places_at-requires : goal.put_all-places_at-requires
+put_all-places_at-requires c =
+    let e = c.in_ok-end.ensures in
     let z = sized c.args.runs.now e.0 in
     omega (arith, e.1)
 
-pub put-places-runs-at-requires : goal.put-places-runs-at-requires
-put-places-runs-at-requires c =
-    let e = c.in-ok-end.ensures in
+pub put_places-runs_at-requires : goal.put_places-runs_at-requires
+put_places-runs_at-requires c =
+    let e = c.in_ok-end.ensures in
     let z = sized c.args.runs.now e.0 in
     (z.fits, omega (arith, e.1))
 
-pub put-all-requires : goal.put-all-requires
-put-all-requires c =
-    let e = c.in-ok-end.ensures in
+pub put_all-requires : goal.put_all-requires
+put_all-requires c =
+    let e = c.in_ok-end.ensures in
     let z = sized c.args.runs.now e.0 in
     omega (arith, e.1)
 
@@ -60,21 +60,21 @@ returns c =
     let xs = c.args.runs.now in
     let rs = map (λ x. x.now) xs in
     let old = c.args.out.now in
-    let e = c.in-ok-end.ensures in
+    let e = c.in_ok-end.ensures in
     let z = sized xs e.0 in
     let end = e.1 in
     let count = flat_map number_bytes (length xs ∷ []) in
     let places = flat_map number_bytes (run_places (header_end rs) rs) in
-    let two = put_behind old count places c.put-all-places-at.new.out c.put-places-runs-at.new.out 0 c.put-all-places-at.result
-    (omega arith) c.put-all-places-at.ensures.put (omega arith) c.put-places-runs-at.ensures.put in
+    let two = put_behind old count places c.put_all-places_at.new.out c.put_places-runs_at.new.out 0 c.put_all-places_at.result
+    (omega arith) c.put_all-places_at.ensures.put (omega arith) c.put_places-runs_at.ensures.put in
     let l = length-append count places in
-    let three = put_behind old (count ++ places) (flat_map (λ x. x.now) xs) c.put-places-runs-at.new.out c.put-all.new.out 0 c.put-places-runs-at.result
-    (omega arith) two (omega arith) c.put-all.ensures.put in
+    let three = put_behind old (count ++ places) (flat_map (λ x. x.now) xs) c.put_places-runs_at.new.out c.put_all.new.out 0 c.put_places-runs_at.result
+    (omega arith) two (omega arith) c.put_all.ensures.put in
     let k = length-append (count ++ places) (flat_map (λ x. x.now) xs) in
     let all : (count ++ places) ++ flat_map (λ x. x.now) xs ≡ day_bytes rs =
     append_assoc count places (flat_map (λ x. x.now) xs) ∙ ap (λ n. flat_map number_bytes (n ∷ []) ++ (places ++ flat_map (λ x. x.now) xs)) (sym (runs_length xs))
     ∙ ap (λ t. flat_map number_bytes (length rs ∷ []) ++ (places ++ t)) (runs_joined xs) in
-    let ok = writing_ok (day_writable rs) (day_length rs) (length old) c.put-all.result e.0 (omega arith) (omega arith) in
+    let ok = writing_ok (day_writable rs) (day_length rs) (length old) c.put_all.result e.0 (omega arith) (omega arith) in
     record {
       answer = ok;
       out = three ∙ written_front old ((count ++ places) ++ flat_map (λ x. x.now) xs) (omega arith) ∙ ap (λ t. laid_over t old) all

@@ -10,7 +10,7 @@ returns-in-Err g c =
 pub loop-n-preserved : goal.loop-n-preserved
 loop-n-preserved g c =
     let k : c.args.count - c.loop-n.n - 1 ≡ c.args.count - (c.loop-n.n + 1) = omega arith in
-    let s = fault_next g.R.Record.decoded c.args.section.now (c.args.count - c.loop-n.n) c.loop-n.n c.in-default.field-0 (omega arith) c.in-default.ensures in
+    let s = fault_next g.R.Record.decoded c.args.section.now (c.args.count - c.loop-n.n) c.loop-n.n c.in_default.field-0 (omega arith) c.in_default.ensures in
     rw (← k) (sym s ∙ c.loop-n.invariant)
 
 pub returns : goal.returns

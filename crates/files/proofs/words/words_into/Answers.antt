@@ -13,9 +13,9 @@ loop-n-preserved c =
     let n = c.loop-n.n in
     let l = length-words_of c.args.section.now in
     let here : n < length c.args.section.now / 4 = omega arith in
-    let x = c.number-at.ensures ∙ numbers_read c.args.section.now n c.number-at.result here in
-    ap (λ rows. set rows n c.number-at.result) c.loop-n.invariant
-    ∙ laid_more (words_of c.args.section.now) c.args.words.now n c.number-at.result (omega arith) (omega arith) x
+    let x = c.number_at.ensures ∙ numbers_read c.args.section.now n c.number_at.result here in
+    ap (λ rows. set rows n c.number_at.result) c.loop-n.invariant
+    ∙ laid_more (words_of c.args.section.now) c.args.words.now n c.number_at.result (omega arith) (omega arith) x
 
 pub returns : goal.returns
 returns c =

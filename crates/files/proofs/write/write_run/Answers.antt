@@ -14,17 +14,17 @@ returns c =
     let entries = c.args.entries.now in
     let steps = c.args.steps.now in
     let old = c.args.out.now in
-    let header = c.in-ok-fields.ensures.legal in
+    let header = c.in_ok-fields.ensures.legal in
     let file = file_bytes c.args.order c.args.cards words entries steps in
     let rest = flat_map number_bytes words ++ (flat_map encode_entry entries ++ flat_map encode_step steps) in
     let f = fields_for c.args.order c.args.cards (length words) (length entries) (length steps) in
-    let ok = writing_ok (writable f) (file_end f) (length old) c.put-all.result header.0 (omega arith) (omega arith) in
-    let numbers = c.field-numbers-header.ensures.numbers ∙ ap field_numbers header.1 in
-    let put = four_parts_put old (flat_map number_bytes c.field-numbers-header.result) (flat_map number_bytes words) (flat_map encode_entry entries) (flat_map encode_step steps)
-    c.put-all-words-at.new.out c.put-all-entries-at.new.out c.put-all-steps-at.new.out c.put-all.new.out
-    c.put-all-words-at.result c.put-all-entries-at.result c.put-all-steps-at.result (omega arith)
-    c.put-all-words-at.ensures.put c.put-all-words-at.ensures.end c.put-all-entries-at.ensures.put c.put-all-entries-at.ensures.end
-    c.put-all-steps-at.ensures.put c.put-all-steps-at.ensures.end c.put-all.ensures.put in
+    let ok = writing_ok (writable f) (file_end f) (length old) c.put_all.result header.0 (omega arith) (omega arith) in
+    let numbers = c.field_numbers-header.ensures.numbers ∙ ap field_numbers header.1 in
+    let put = four_parts_put old (flat_map number_bytes c.field_numbers-header.result) (flat_map number_bytes words) (flat_map encode_entry entries) (flat_map encode_step steps)
+    c.put_all-words_at.new.out c.put_all-entries_at.new.out c.put_all-steps_at.new.out c.put_all.new.out
+    c.put_all-words_at.result c.put_all-entries_at.result c.put_all-steps_at.result (omega arith)
+    c.put_all-words_at.ensures.put c.put_all-words_at.ensures.end c.put_all-entries_at.ensures.put c.put_all-entries_at.ensures.end
+    c.put_all-steps_at.ensures.put c.put_all-steps_at.ensures.end c.put_all.ensures.put in
     record {
       answer = ok;
       out = put ∙ ap (λ (xs : List ℕ). laid_over (flat_map number_bytes xs ++ rest) old) numbers ∙ ap (λ (r : Result ℕ WriteFault). bytes_after r file old) ok;

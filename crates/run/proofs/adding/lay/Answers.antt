@@ -9,7 +9,7 @@ loop-k-init g c = laid_first c.args.code.now c.args.at c.args.number (instructio
 pub loop-k-preserved : goal.loop-k-preserved
 loop-k-preserved g c =
     laid_next c.loop-k.code _ c.args.at c.args.number c.loop-k.k (instructions c.args.translation.now) c.get.result
-    (omega arith) c.get.ensures c.lay-one.ensures
+    (omega arith) c.get.ensures c.lay_one.ensures
     ∙ c.loop-k.invariant
 
 pub returns : goal.returns

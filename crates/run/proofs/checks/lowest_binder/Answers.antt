@@ -2,8 +2,8 @@ use Rattle.std.proofs.Common.{◌≡◌, Some, None, sym, refl, ap, ◌∙◌, a
 use Rattle.run.proofs.Binders.{binder_here, binder_next, binder_end}
 use Rattle.run.proofs.checks.lowest_binder.Goals as goal
 
-pub returns-then-holds-back : goal.returns-then-holds-back
-returns-then-holds-back g c =
+pub returns-then-holds_back : goal.returns-then-holds_back
+returns-then-holds_back g c =
     let e = binder_here c.args.rows.now c.args.later c.loop-row.row-index c.row-item.result c.loop-row-test.true c.row-item.is (cc) in cc
 
 pub loop-row-preserved : goal.loop-row-preserved

@@ -8,8 +8,8 @@ use Rattle.files.proofs.run_file.RunFile.open.Goals as goal
 pub returns : goal.returns
 returns c =
     let bs = c.args.bytes.now in
-    let f = c.in-ok-fields.fields in
-    let found = c.in-ok-fields.ensures in
+    let f = c.in_ok-fields.fields in
+    let found = c.in_ok-fields.ensures in
     let p = placed bs found.0 in
     let z = sized bs found.0 in
     let e = ap (λ (h : Fields). h.entries_at) found.1 ∙ p.entries in
