@@ -1,5 +1,6 @@
 // The audit of one run file: are its records, taken in turn, all accepted?
 #![tactic(auto)]
+
 pub mod alone;
 pub mod audit;
 mod entries;

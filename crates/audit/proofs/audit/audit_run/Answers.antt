@@ -5,8 +5,8 @@ use Rattle.audit.proofs.audit.audit_run.Goals as goal
 
 pub returns : goal.returns
 returns c =
-    let l = c.audit-over.new in
+    let l = c.audit_over.new in
     record {
       audited = search rules;
-      ok = λ n h. ok_by _ _ (record { answer = Ok c.audit-over.result; left = tables l.words l.cards l.code l.cells l.steps }) n (search rules) h;
+      ok = λ n h. ok_by _ _ (record { answer = Ok c.audit_over.result; left = tables l.words l.cards l.code l.cells l.steps }) n (search rules) h;
     }
