@@ -1,5 +1,6 @@
 // The report of a day: the heading that is open, the lines, and the text that they are printed into.
 #![tactic(auto)]
+
 pub mod day;
 mod digits;
 pub mod heading;

@@ -12,18 +12,18 @@ returns-in-Err c =
     let printed = broken_report _ _ _ c.args.input.now _ c.print.result o.0 (c.number.ensures ∙ o.1) c.print.ensures.printed in
     record { heading = search rules; printed = printed; stops = stops_by _ _ _ c.print.result printed; enough = λ h. c.print.ensures.enough (more _ h); same = c.print.ensures.same }
 
-pub returns-in-err-ok : goal.returns-in-err-ok
-returns-in-err-ok c =
+pub returns-in_err-ok-in-Ok : goal.returns-in_err-ok-in-Ok
+returns-in_err-ok-in-Ok c =
     let o = c.in-Ok.ensures in
-    let e = c.in-err-ok.ensures in
-    let p = err_from_is_err_and c.from-residual.result c.from-residual.ensures.1 in
-    let printed = cut_report _ _ c.args.kept.now.heading _ _ o.1 o.0 c.in-err-ok.field-0.0 e.printed in
-    rw (p.1, p.2) record { heading = e.heading; printed = printed; stops = stops_by {X = Unit {0}} _ _ _ (Err c.in-err-ok.field-0.0) printed; enough = λ h. absurd (runs_fit (page_of c.args.text.now) _ (few_runs _ _ o.1 o.0) e.room h); same = e.same }
+    let e = c.in_err-ok-in-Ok.ensures in
+    let p = err_from_is_err_and c.from_residual.result c.from_residual.ensures.1 in
+    let printed = cut_report _ _ c.args.kept.now.heading _ _ o.1 o.0 c.in_err-ok-in-Ok.field-0.0 e.printed in
+    rw (p.1, p.2) record { heading = e.heading; printed = printed; stops = stops_by {X = Unit {0}} _ _ _ (Err c.in_err-ok-in-Ok.field-0.0) printed; enough = λ h. absurd (runs_fit (page_of c.args.text.now) _ (few_runs _ _ o.1 o.0) e.room h); same = e.same }
 
-pub returns-in-ok-ok : goal.returns-in-ok-ok
-returns-in-ok-ok c =
+pub returns-in_ok-ok-in-Ok : goal.returns-in_ok-ok-in-Ok
+returns-in_ok-ok-in-Ok c =
     let o = c.in-Ok.ensures in
-    let e = c.in-ok-ok.ensures in
+    let e = c.in_ok-ok-in-Ok.ensures in
     let count = c.count.ensures in
     let printed = sound_report _ _ c.args.kept.now.heading _ _ o.1 o.0 _ _ _ _ c.print-in-Ok.result e.heading count e.ok e.printed c.print-in-Ok.ensures.printed in
-    record { heading = e.heading; printed = printed; stops = stops_by _ _ _ c.print-in-Ok.result printed; enough = λ h. c.print-in-Ok.ensures.enough (room_left (page_of c.args.text.now) (page_of c.report-runs.new.text) _ (few_runs _ _ o.1 o.0) e.room h); same = c.print-in-Ok.ensures.same ∙ e.same }
+    record { heading = e.heading; printed = printed; stops = stops_by _ _ _ c.print-in-Ok.result printed; enough = λ h. c.print-in-Ok.ensures.enough (room_left (page_of c.args.text.now) (page_of c.report_runs.new.text) _ (few_runs _ _ o.1 o.0) e.room h); same = c.print-in-Ok.ensures.same ∙ e.same }

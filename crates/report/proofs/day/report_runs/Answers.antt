@@ -12,12 +12,12 @@ loop-n-init c =
     let all : c.count-n-end.result - 0 ≡ c.count-n-end.result = omega arith in
     (begun c.args.day.now.bytes.now _ (page_of c.args.text.now) _ (all ∙ count), omega arith, refl, refl, omega arith)
 
-pub returns-in-err-report-nth : goal.returns-in-err-report-nth
-returns-in-err-report-nth c =
-    let p = err_from_is_err_and c.from-residual.result c.from-residual.ensures.1 in
+pub returns-in_err-report_nth : goal.returns-in_err-report_nth
+returns-in_err-report_nth c =
+    let p = err_from_is_err_and c.from_residual.result c.from_residual.ensures.1 in
     let bytes = c.args.day.now.bytes.now in
     let n = c.loop-n.n in
-    let e = c.in-err-report-nth.ensures in
+    let e = c.in_err-report_nth.ensures in
     let i = c.loop-n.invariant in
     let left : c.count-n-end.result - n ≡ suc (c.count-n-end.result - (n + 1)) = omega arith in
     rw (p.1, p.2) record {
@@ -32,7 +32,7 @@ pub loop-n-preserved : goal.loop-n-preserved
 loop-n-preserved c =
     let bytes = c.args.day.now.bytes.now in
     let n = c.loop-n.n in
-    let e = c.in-ok-report-nth.ensures in
+    let e = c.in_ok-report_nth.ensures in
     let i = c.loop-n.invariant in
     let left : c.count-n-end.result - n ≡ suc (c.count-n-end.result - (n + 1)) = omega arith in
     let more : c.if-branch.ok ≡ c.loop-n.ok + cond (nth_ok bytes n) 1 0 =

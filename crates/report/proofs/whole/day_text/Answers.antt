@@ -9,6 +9,6 @@ returns-in-Err c =
     let n = c.new-text.ensures in
     let same = sym (e.same ∙ n.same) in
     record {
-      printed = text_refused (page_of c.new-text.result) (page_of c.report-day.new.text) c.args.table.now _ _ c.in-Err.fault n.empty e.printed (search rules);
+      printed = text_refused (page_of c.new-text.result) (page_of c.report_day.new.text) c.args.table.now _ _ c.in-Err.fault n.empty e.printed (search rules);
       enough = λ h. e.enough (text_enough (page_of c.new-text.result) c.args.table.now n.empty h);
     }
