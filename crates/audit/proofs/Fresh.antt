@@ -1,5 +1,5 @@
 -- An audit over empty tables of full size is not refused.
-use Rattle.std.proofs.Common.{◌≡◌, ℕ, ◌*◌, ◌≤◌, Bool, true, false, cond, ◌&&◌, leb, List, length, Ok, Err, Result, sym, refl, ap, ◌∙◌, mul-le-mul, arith}
+use Rattle.std.proofs.Common.{◌≡◌, ℕ, ◌*◌, Bool, true, false, cond, List, length, Ok, refl, ap, ◌∙◌, mul-le-mul, arith}
 use lib.ListN.{length-replicate}
 use Rattle.std.proofs.lemmas.Bool.{and_from, le-leb}
 use Rattle.files.specs.Header.{header_of, fields_of}
@@ -7,10 +7,9 @@ use Rattle.files.specs.Run.{sound_run}
 use Rattle.files.proofs.Laying.{bounded}
 use Rattle.audit.specs.declared.verdict.Verdict.{Verdict}
 use Rattle.audit.specs.declared.verdict.Verdict.TheVariants as verdict
-use Rattle.audit.specs.declared.verdict.AuditFault.{AuditFault}
 use Rattle.audit.specs.Accepted.{Accepted}
 use Rattle.audit.proofs.Oks.{ok_accepted}
-use Rattle.audit.specs.Audit.{Tables, AuditOutcome, tables, roomy, audited}
+use Rattle.audit.specs.Audit.{Tables, AuditOutcome, roomy, audited}
 use Rattle.audit.specs.Alone.{fresh, verdict_of}
 
 -- the bounds of a header leave room for the run

@@ -1,5 +1,5 @@
 -- What the verdict ok comes from.
-use Rattle.std.proofs.Common.{◌≡◌, ℕ, zero, suc, ◌+◌, ◌≤◌, Bool, true, false, cond, eqb, List, length, Some, None, Ok, Err, Option, Result, sym, refl, ap, ◌∙◌, add-zero, arith}
+use Rattle.std.proofs.Common.{◌≡◌, ℕ, zero, suc, ◌+◌, Bool, true, false, cond, eqb, List, length, Some, None, Ok, Err, Option, Result, sym, refl, ap, ◌∙◌, add-zero, arith}
 use Rattle.run.specs.Drafts.{Drafted}
 use Rattle.run.specs.Steps.{World, Outcome, performed, cached, written_back, purged}
 use Rattle.run.proofs.Taken.{OneMore, performed_more, cached_more, written_more, purged_more}
@@ -15,10 +15,10 @@ use Rattle.audit.specs.declared.fault.RowFault.{RowFault}
 use Rattle.audit.specs.declared.verdict.Verdict.{Verdict}
 use Rattle.audit.specs.declared.verdict.Verdict.TheVariants as verdict
 use Rattle.audit.specs.declared.verdict.AuditFault.{AuditFault}
-use Rattle.audit.specs.Audit.{Tables, AuditOutcome, Audited, after_entries, after_steps, audited, roomy, started, steps_audited, words_back, file_audited}
+use Rattle.audit.specs.Audit.{Tables, AuditOutcome, after_entries, after_steps, audited, roomy, started, steps_audited, words_back, file_audited}
 use Rattle.audit.specs.Accepted.{Accepted, entries_worked, steps_worked}
 use Rattle.audit.specs.Records.{step_from, stepped, step_one, step_taken}
-use Rattle.audit.specs.Turns.{Taken, Worked, worked, worked_by}
+use Rattle.audit.specs.Turns.{Taken, worked, worked_by}
 
 clash : {X : Type 0} → ◌≡◌ {A = ℕ} 0 1 → X
 clash z = absurd (omega arith)

@@ -1,7 +1,7 @@
 -- Records worked in turn, one record at a time.
-use Rattle.std.proofs.Common.{◌≡◌, ℕ, zero, suc, ◌+◌, ◌-◌, ◌<◌, ◌≤◌, Some, None, Ok, Err, sym, refl, ap, ◌∙◌, arith}
+use Rattle.std.proofs.Common.{◌≡◌, ℕ, zero, suc, ◌+◌, ◌-◌, ◌<◌, Some, None, Ok, Err, sym, refl, ap, ◌∙◌, arith}
 use Rattle.audit.specs.declared.fault.RowFault.{RowFault}
-use Rattle.audit.specs.Turns.{Taken, Worked, worked, worked_by}
+use Rattle.audit.specs.Turns.{Taken, worked, worked_by}
 
 module _ {D : Type 0} (one : ℕ → D → Taken D) where
   -- a record that is accepted

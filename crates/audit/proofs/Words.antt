@@ -1,5 +1,5 @@
 -- The initial words of a run file as the run's memory.
-use Rattle.std.proofs.Common.{◌≡◌, ℕ, zero, suc, ◌*◌, ◌≤◌, List, [], ◌∷◌, length, sym, refl, ap, ◌∙◌, arith}
+use Rattle.std.proofs.Common.{◌≡◌, ℕ, ◌*◌, ◌≤◌, List, [], ◌∷◌, length, refl, ap, ◌∙◌, arith}
 use Rattle.memory.specs.Bytes.{words_of}
 use Rattle.memory.specs.Meaning.{shown}
 use Rattle.memory.specs.Shown.{shown_all}

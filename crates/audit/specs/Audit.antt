@@ -1,5 +1,5 @@
 -- The audit of one run file.
-use Rattle.std.specs.Prelude.{ℕ, ◌*◌, Bool, true, false, cond, ◌&&◌, List, length, Some, None, Option, Result, nat_le}
+use Rattle.std.specs.Prelude.{ℕ, ◌*◌, Bool, false, cond, ◌&&◌, List, length, Some, None, Option, Result, nat_le}
 use Rattle.std.specs.declared.result.Result.TheVariants as result
 use Rattle.orders.specs.declared.chosen.AnyOrder.{AnyOrder}
 use Rattle.run.specs.Drafts.{Drafted}
@@ -21,7 +21,7 @@ use Rattle.audit.specs.declared.verdict.Verdict.{Verdict}
 use Rattle.audit.specs.declared.verdict.Verdict.TheVariants as verdict
 use Rattle.audit.specs.declared.verdict.AuditFault.{AuditFault}
 use Rattle.audit.specs.declared.verdict.AuditFault.TheVariants as refusal
-use Rattle.audit.specs.Turns.{Worked, worked}
+use Rattle.audit.specs.Turns.{worked}
 use Rattle.audit.specs.Records.{entry_one, step_one}
 
 -- the tables lent to an audit; `words` is the run's memory

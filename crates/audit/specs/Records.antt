@@ -2,7 +2,7 @@
 use Rattle.std.specs.Prelude.{ℕ, List, Some, None, Ok, Err, Result, nat_eq}
 use Rattle.orders.specs.Chosen.{any_takes, any_before, any_after}
 use Rattle.orders.specs.declared.chosen.AnyOrder.{AnyOrder}
-use Rattle.run.specs.Drafts.{Drafted, Adding, added}
+use Rattle.run.specs.Drafts.{Drafted, added}
 use Rattle.run.specs.Steps.{World, Outcome, performed, cached, written_back, purged}
 use Rattle.run.specs.declared.fault.ProgramFault.{ProgramFault}
 use Rattle.run.specs.declared.fault.StepFault.{StepFault}

@@ -1,5 +1,6 @@
 // Reads a day file on standard input and prints its report.
 #![tactic(auto)]
+
 use anyhow::anyhow;
 use report::whole::{REPORT_BYTES, day_text};
 use std::io::{Read, Write};

@@ -1,5 +1,5 @@
 -- Laws of words of four bytes.
-use Rattle.std.proofs.Common.{◌≡◌, ℕ, zero, suc, ◌+◌, ◌*◌, ◌/◌, ◌%◌, ◌<◌, ◌≤◌, true, false, ◌&&◌, ltb, List, [], ◌∷◌, length, get_or, set, Ok, sym, refl, ap, ◌∙◌, mod-eq_of_lt, arith}
+use Rattle.std.proofs.Common.{◌≡◌, ℕ, zero, suc, ◌+◌, ◌*◌, ◌/◌, ◌%◌, ◌<◌, ◌≤◌, ◌&&◌, ltb, List, [], ◌∷◌, length, get_or, set, Ok, sym, refl, ap, ◌∙◌, mod-eq_of_lt, arith}
 use native.Mathlib.Nat.{div-div-eq-div-mul, mod-add-div'}
 use Rattle.std.proofs.lemmas.Bool.{and_from, and_parts, cond_both, cond-true, ltb-true, lt-ltb}
 use Rattle.memory.specs.Bytes.{four_bytes, words_of, four_put, word_put, bytes_written}

@@ -1,7 +1,6 @@
 -- The element at a place of lists put together.
 use Rattle.std.proofs.Common.{◌≡◌, ℕ, zero, suc, ◌+◌, ◌-◌, ◌<◌, ◌≤◌, List, [], ◌∷◌, ◌++◌, length, Some, None, Option, sym, refl, ap, ◌∙◌, arith}
 use Rattle.crf.specs.Fences.{Row, fence_row}
-use Rattle.crf.specs.declared.instruction.Instruction.{Instruction}
 use Rattle.orders.specs.Lists.{nth}
 use Rattle.orders.specs.Translation.{fence_rows}
 

@@ -1,17 +1,15 @@
 -- Where a fitting fence stands between two accesses.
-use Rattle.std.specs.Prelude.{◌≡◌, ℕ, ◌≤◌, Bool, true, false, ◌⊎◌, List, [], ◌∷◌, ◌++◌, refl}
+use Rattle.std.specs.Prelude.{◌≡◌, ℕ, ◌≤◌, true, List, [], ◌∷◌, ◌++◌, refl}
 use Rattle.std.proofs.Math.Path.{subst⁻¹}
 use Rattle.std.proofs.Common.{inl, inr, arith}
 use Rattle.std.proofs.lemmas.Bool.Decides.{nat_tests}
 use Rattle.crf.specs.Spans.{within, low_of, high_of}
-use Rattle.orders.specs.Lists.{Some, Each}
+use Rattle.orders.specs.Lists.{Some}
 use Rattle.crf.specs.Fences.{Row, star_to, from_star, at_at, star_star}
-use Rattle.orders.specs.Fences.{by_mask, if_has, has}
 use Rattle.orders.specs.Order.{Fits, kind_of, of_all, standing}
-use Rattle.crf.specs.declared.instruction.FenceKind.{FenceKind}
 use Rattle.orders.specs.declared.entries.Access.{Access}
 use Rattle.orders.specs.declared.entries.Shape.{Shape}
-use Rattle.orders.specs.declared.entries.Shape.TheVariants.{Access as AccessOf, Barrier}
+use Rattle.orders.specs.declared.entries.Shape.TheVariants.{Access as AccessOf}
 
 pub some_left : {X : Type 0} (P : X → Type 0) (xs ys : List X) → Some P xs → Some P (xs ++ ys)
 some_left P [] ys s = absurd s

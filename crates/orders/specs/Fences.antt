@@ -1,5 +1,5 @@
 -- Up to four fences, and the fences of a barrier.
-use Rattle.std.specs.Prelude.{ℕ, Bool, true, false, cond, not, List, [], ◌∷◌, ◌++◌, Some, None, Option, ◌==◌, bit_and}
+use Rattle.std.specs.Prelude.{ℕ, Bool, cond, not, List, [], ◌∷◌, ◌++◌, Some, None, Option, ◌==◌, bit_and}
 use Rattle.crf.specs.Fences.{Row, row_of, star_star}
 use Rattle.crf.specs.declared.instruction.FenceKind.{FenceKind}
 use Rattle.crf.specs.declared.instruction.FenceKind.TheVariants.{Rr, Rw, Wr, Ww}

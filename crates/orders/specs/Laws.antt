@@ -1,6 +1,6 @@
 -- The laws of the memory orders.
-use Rattle.std.specs.Prelude.{◌≡◌, ℕ, ◌≤◌, Bool, true, false, cond, ◌⊎◌, List, [], ◌∷◌, ◌++◌, ◌==◌, refl}
-use Rattle.std.proofs.Common.{sym, subst, inl, inr, arith}
+use Rattle.std.specs.Prelude.{◌≡◌, ℕ, ◌≤◌, Bool, true, cond, List, [], ◌∷◌, ◌++◌, ◌==◌, refl}
+use Rattle.std.proofs.Common.{inl, inr, arith}
 use Rattle.std.proofs.Math.Path.{subst⁻¹}
 use Rattle.std.proofs.lemmas.Bool.Decides.{nat_tests}
 use Rattle.orders.specs.Lists.{Some, Each}
@@ -13,7 +13,6 @@ use Rattle.crf.specs.declared.instruction.FenceKind.TheVariants.{Rr, Rw, Wr, Ww}
 use Rattle.orders.specs.declared.entries.Op.{Op}
 use Rattle.orders.specs.declared.entries.Op.TheVariants.{Load, Store}
 use Rattle.orders.specs.declared.entries.Mark.{Mark}
-use Rattle.orders.specs.declared.entries.Mark.TheVariants.{Plain, Acquire, Release}
 use Rattle.orders.specs.declared.entries.Access.{Access}
 use Rattle.orders.specs.declared.entries.Shape.{Shape}
 use Rattle.orders.specs.declared.entries.Shape.TheVariants.{Access as AccessOf, Barrier}

@@ -1,5 +1,5 @@
 -- The table of the memory orders.
-use Rattle.std.specs.Prelude.{◌≡◌, ℕ, Bool, true, false, ◌&&◌, ◌⊎◌, List, [], ◌∷◌, ◌++◌, ◌==◌, nat_le}
+use Rattle.std.specs.Prelude.{◌≡◌, ℕ, Bool, true, false, ◌&&◌, ◌⊎◌, List, [], ◌∷◌, ◌==◌, nat_le}
 use Rattle.orders.specs.Lists.{Some}
 use Rattle.crf.specs.Fences.{Row, star_to, from_star, at_at}
 use Rattle.orders.specs.Fences.{by_mask, has}

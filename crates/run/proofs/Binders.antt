@@ -1,5 +1,5 @@
 -- The search for the lowest row that binds, one row at a time.
-use Rattle.std.proofs.Common.{◌≡◌, ℕ, ◌+◌, ◌<◌, ◌≤◌, true, false, List, length, get_or, drop, Some, None, refl, add-one, drop_of_length-le, drop-cons}
+use Rattle.std.proofs.Common.{◌≡◌, ℕ, ◌+◌, ◌<◌, ◌≤◌, true, false, List, length, get_or, drop, Some, None, add-one, drop_of_length-le, drop-cons}
 use Rattle.run.specs.declared.rows.CodeRow.{CodeRow}
 use Rattle.crf.specs.declared.instruction.Instruction.{Instruction}
 use Rattle.run.specs.Steps.{bound, binder}

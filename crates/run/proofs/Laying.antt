@@ -1,5 +1,5 @@
 -- Rows laid one after the other, one row at a time.
-use Rattle.std.proofs.Common.{◌≡◌, ℕ, zero, suc, ◌+◌, ◌<◌, ◌≤◌, List, [], ◌∷◌, length, drop, Some, None, Option, sym, refl, ap, ◌∙◌, add-zero, add-one, arith, drop_of_length-le}
+use Rattle.std.proofs.Common.{◌≡◌, ℕ, zero, suc, ◌+◌, ◌<◌, ◌≤◌, List, [], ◌∷◌, length, drop, Some, None, Option, sym, ap, ◌∙◌, add-zero, add-one, arith, drop_of_length-le}
 use Rattle.crf.specs.declared.instruction.Instruction.{Instruction}
 use Rattle.orders.specs.Lists.{nth}
 use Rattle.run.specs.declared.rows.CodeRow.{CodeRow}

@@ -1,5 +1,5 @@
 -- Refused calls, and the position that a refusal names.
-use Rattle.std.proofs.Common.{◌≡◌, ℕ, zero, suc, ◌+◌, ◌<◌, ◌≤◌, Bool, true, false, cond, List, [], ◌∷◌, length, get_or, Some, None, Ok, Err, Option, Result, sym, refl, ap, ◌∙◌, arith}
+use Rattle.std.proofs.Common.{◌≡◌, ℕ, zero, suc, ◌+◌, ◌<◌, Bool, true, false, cond, List, [], ◌∷◌, get_or, Some, Ok, Err, Result, refl, arith}
 use mathlib.Core.Path.{subst⁻¹}
 use Rattle.crf.specs.declared.instruction.Instruction.{Instruction}
 use Rattle.run.specs.declared.fault.StepFault.{StepFault}

@@ -1,5 +1,5 @@
 -- Opening a draft, adding to it, starting it.
-use Rattle.std.specs.Prelude.{ℕ, ◌+◌, ◌*◌, min, Bool, true, false, ◌&&◌, List, length, Ok, Err, Result, nat_le, nat_lt, slice_index_or, slice_set}
+use Rattle.std.specs.Prelude.{ℕ, ◌+◌, ◌*◌, min, Bool, true, ◌&&◌, List, length, Ok, Err, Result, nat_le, nat_lt, slice_index_or, slice_set}
 use Rattle.crf.specs.Fences.{Row}
 use Rattle.crf.specs.declared.instruction.Instruction.{Instruction}
 use Rattle.crf.specs.declared.instruction.Instruction.TheVariants.{Loadl, Storel, Commit, Reconcile, Fence}

@@ -1,5 +1,5 @@
 -- What the definitions of the calls come to, in plain words.
-use Rattle.std.specs.Prelude.{◌≡◌, ℕ, ◌<◌, Bool, true, false, List, length, Some, Err, Option, Result, slice_index_or}
+use Rattle.std.specs.Prelude.{◌≡◌, ℕ, ◌<◌, Bool, true, false, List, length, Some, Err, Option, slice_index_or}
 use Rattle.crf.specs.Fences.{Row}
 use Rattle.crf.specs.declared.instruction.Instruction.{Instruction}
 use Rattle.orders.specs.declared.entries.Entry.{Entry}

@@ -1,5 +1,5 @@
 -- Rows of the tables.
-use Rattle.std.specs.Prelude.{ℕ, ◌+◌, ◌-◌, min, Bool, true, false, List, [], ◌∷◌, ◌++◌, drop, replicate, Some, None, Option, slice_set}
+use Rattle.std.specs.Prelude.{ℕ, ◌+◌, ◌-◌, min, true, false, List, [], ◌∷◌, ◌++◌, drop, replicate, Some, None, Option, slice_set}
 use Rattle.crf.specs.declared.instruction.Instruction.{Instruction}
 use Rattle.crf.specs.declared.instruction.Instruction.TheVariants.{Commit}
 use Rattle.run.specs.declared.rows.Cell.{Cell}

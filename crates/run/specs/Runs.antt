@@ -1,5 +1,5 @@
 -- A run's states and the tables lent to a call, as one value.
-use Rattle.std.specs.Prelude.{Bool, List}
+use Rattle.std.specs.Prelude.{List}
 use Rattle.run.specs.declared.rows.Cell.{Cell}
 use Rattle.run.specs.declared.rows.CodeRow.{CodeRow}
 use Rattle.run.specs.declared.rows.StepRow.{StepRow}

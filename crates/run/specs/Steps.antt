@@ -1,5 +1,5 @@
 -- The steps of a running run.
-use Rattle.std.specs.Prelude.{ℕ, ◌+◌, ◌*◌, min, Bool, true, false, cond, not, ◌&&◌, List, [], ◌∷◌, length, take, drop, Some, None, Ok, Err, Option, Result, nat_le, nat_lt, slice_index_or, slice_set}
+use Rattle.std.specs.Prelude.{ℕ, ◌+◌, ◌*◌, min, Bool, true, cond, not, ◌&&◌, List, [], ◌∷◌, length, take, drop, Some, None, Ok, Err, Option, Result, nat_le, nat_lt, slice_index_or, slice_set}
 use Rattle.memory.specs.Meaning.{read_of}
 use Rattle.memory.specs.declared.fault.MemoryFault.{MemoryFault}
 use Rattle.crf.specs.Binding.{binding}

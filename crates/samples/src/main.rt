@@ -1,5 +1,6 @@
 // Prints, for each day file of the folder that it is run in, the file's name and its report.
 #![tactic(auto)]
+
 use anyhow::anyhow;
 use report::whole::{REPORT_BYTES, day_text};
 use std::fs;
@@ -23,7 +24,7 @@ fn main(rt: HostRuntime) -> anyhow::Result<()> {
         let entry = entry?;
         names.push(String::from_str(heap, entry.file_name())?)?;
     }
-    names.sort();
+    names.sort()?;
     for name in names.iter() {
         print_report(&rt, name.as_str())?;
     }

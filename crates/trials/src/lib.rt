@@ -1,5 +1,6 @@
 // Tests of the bounds, worked through the public calls over tables of their own.
 #![tactic(auto)]
+
 use crf::instruction::Instruction;
 use crf::span::Span;
 use memory::interface::Memory;

@@ -1,7 +1,7 @@
 use Rattle.std.proofs.Common.{◌≡◌, ℕ, ◌*◌, ◌≤◌, List, length, Ok, sym, ap, ◌∙◌, subst, arith}
 use Rattle.memory.specs.Bytes.{words_of}
 use Rattle.memory.specs.Meaning.{shown}
-use Rattle.audit.specs.Audit.{AuditOutcome, tables, records_audited, words_back}
+use Rattle.audit.specs.Audit.{tables, records_audited, words_back}
 use Rattle.audit.proofs.Words.{initial_length, initial_words}
 use Rattle.audit.proofs.audit.audit_over.Goals as goal
 

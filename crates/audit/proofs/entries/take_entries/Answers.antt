@@ -1,4 +1,4 @@
-use Rattle.std.proofs.Common.{◌≡◌, ◌+◌, ◌-◌, sym, refl, ap, ◌∙◌, arith}
+use Rattle.std.proofs.Common.{◌+◌, ◌-◌, sym, ap, ◌∙◌, arith}
 use Rattle.run.specs.Runs.{draft_of}
 use Rattle.audit.specs.Records.{entry_one}
 use Rattle.audit.proofs.Turns.{worked_next, worked_stop, worked_end}

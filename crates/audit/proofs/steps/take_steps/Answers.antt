@@ -1,4 +1,4 @@
-use Rattle.std.proofs.Common.{◌≡◌, ◌+◌, ◌-◌, sym, ◌∙◌, arith}
+use Rattle.std.proofs.Common.{◌+◌, ◌-◌, sym, ◌∙◌, arith}
 use Rattle.audit.specs.Records.{step_one}
 use Rattle.audit.proofs.Turns.{worked_next, worked_stop, worked_end}
 use Rattle.audit.proofs.steps.take_steps.Goals as goal

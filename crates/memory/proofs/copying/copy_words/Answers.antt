@@ -1,4 +1,4 @@
-use Rattle.std.proofs.Common.{◌≡◌, sym, ◌∙◌, arith}
+use Rattle.std.proofs.Common.{◌∙◌, arith}
 use Rattle.memory.proofs.Tables.{laid_none, laid_all, copied_more}
 use Rattle.memory.proofs.copying.copy_words.Goals as goal
 

@@ -1,4 +1,4 @@
-use Rattle.std.proofs.Common.{◌≡◌, Some, None, ap, ◌∙◌}
+use Rattle.std.proofs.Common.{Some, ap, ◌∙◌}
 use Rattle.crf.specs.Fences.{row_of}
 use Rattle.orders.specs.Fences.{rows}
 use Rattle.orders.proofs.Nths.{fence_some, fence_none}

@@ -1,4 +1,4 @@
-use Rattle.std.proofs.Common.{◌≡◌, sym, ◌∙◌, rules}
+use Rattle.std.proofs.Common.{sym, ◌∙◌, rules}
 use Rattle.report.specs.Texts.{page_of}
 use Rattle.report.proofs.Rooms.{text_enough, text_refused}
 use Rattle.report.proofs.whole.day_text.Goals as goal

@@ -1,4 +1,4 @@
-use Rattle.std.proofs.Common.{◌≡◌, sym, ◌∙◌, arith}
+use Rattle.std.proofs.Common.{sym, ◌∙◌, arith}
 use Rattle.orders.specs.Translation.{instructions}
 use Rattle.run.proofs.Laying.{laid_first, laid_next, laid_end}
 use Rattle.run.proofs.adding.lay.Goals as goal

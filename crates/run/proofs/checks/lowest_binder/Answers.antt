@@ -1,4 +1,4 @@
-use Rattle.std.proofs.Common.{◌≡◌, Some, None, sym, refl, ap, ◌∙◌, arith, rules}
+use Rattle.std.proofs.Common.{arith}
 use Rattle.run.proofs.Binders.{binder_here, binder_next, binder_end}
 use Rattle.run.proofs.checks.lowest_binder.Goals as goal
 

@@ -1,4 +1,4 @@
-use Rattle.std.proofs.Common.{◌≡◌, sym, ◌∙◌, arith}
+use Rattle.std.proofs.Common.{sym, ◌∙◌, arith}
 use Rattle.orders.specs.Fences.{rows}
 use Rattle.orders.specs.Translation.{core, fence_rows}
 use Rattle.orders.proofs.Nths.{length-fence_rows, nth_first, nth_second, nth_third}
