@@ -2,7 +2,7 @@
 use Rattle.std.proofs.Common.{◌≡◌, ℕ, zero, suc, ◌+◌, ◌*◌, ◌<◌, ◌≤◌, true, ◌&&◌, eqb, ltb, leb, List, [], ◌∷◌, ◌++◌, length, get_or, take, drop, Some, None, sym, refl, ap, ◌∙◌, append_assoc, add-zero, arith, length-append, take-append-drop}
 use Rattle.std.proofs.lemmas.List.{take_all, drop_more, get_or_default}
 use Rattle.std.proofs.lemmas.Bool.{and_parts, and_from, leb-true, le-leb, le-ltb, lt-ltb, eq-eqb, cond-true, cond-false}
-use Rattle.std.specs.List.{flat_map, AllByRecursion as All}
+use Rattle.std.specs.List.{flat_map, AllByRecursion}
 use Rattle.files.specs.Bytes.{number_at, part}
 use Rattle.files.specs.Day.{run_count, offset_of, length_of, runs_start, day_fits, count_fits, has_runs_table, gapless, has_run, run_part}
 use Rattle.files.specs.DayWriting.{run_bytes, header_end, day_length, run_places, day_bytes, day_writable, DayReadsBack}
@@ -27,7 +27,7 @@ header_width runs =
     let l = places_length (header_end runs) runs in
     omega arith
 
-places_fit : (at : ℕ) (rs : List (List ℕ)) → at + length (run_bytes rs) ≤ 65536 → All Number (run_places at rs)
+places_fit : (at : ℕ) (rs : List (List ℕ)) → at + length (run_bytes rs) ≤ 65536 → AllByRecursion Number (run_places at rs)
 unfolding run_places
 places_fit at [] h = tt
 places_fit at (r ∷ rs) h =
@@ -69,7 +69,7 @@ told runs bs e is =
     let l = places_length (header_end runs) runs in
     let w = header_width runs in
     let len = ap length is ∙ length-append (flat_map number_bytes (day_numbers runs)) (run_bytes runs) in
-    let small : All Number (day_numbers runs) = (omega arith, places_fit (header_end runs) runs fits) in
+    let small : AllByRecursion Number (day_numbers runs) = (omega arith, places_fit (header_end runs) runs fits) in
     let read : (i : ℕ) → i < length (day_numbers runs) → number_at bs (4 * i) ≡ get_or (day_numbers runs) i 0 =
     λ i h. ap (λ t. number_at t (4 * i)) is ∙ numbers_of (day_numbers runs) (run_bytes runs) i small h in
     record {

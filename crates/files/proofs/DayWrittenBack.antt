@@ -2,7 +2,7 @@
 use Rattle.std.proofs.Common.{◌≡◌, ℕ, zero, suc, ◌+◌, ◌*◌, ◌≤◌, true, eqb, ltb, leb, List, [], ◌∷◌, ◌++◌, length, take, drop, sym, refl, ap, ◌∙◌, append-nil, arith, length-drop, take-append-drop}
 use Rattle.std.proofs.lemmas.List.{drop_all, drop-drop}
 use Rattle.std.proofs.lemmas.Bool.{and_parts, and_from, eqb-true, le-leb, le-ltb, cond-false}
-use Rattle.std.specs.List.{flat_map, AllByRecursion as All}
+use Rattle.std.specs.List.{flat_map, AllByRecursion}
 use Rattle.files.specs.Bytes.{number_at, part}
 use Rattle.files.specs.Day.{run_count, runs_start, offset_of, length_of, gapless, run_part}
 use Rattle.files.specs.DayWriting.{run_bytes, day_length, run_places, runs_from, runs_of, DayWritesBack}
@@ -47,7 +47,7 @@ runs_back bs (suc k) n at e =
     ∙ ap (λ i. part bs i (length_of bs n) ++ drop (at + length_of bs n) bs) h.offset ∙ part_rest bs at (length_of bs n)
 
 -- and their places are those of the header
-places_back : (bs : List ℕ) (k n at : ℕ) → All Byte bs → 4 + 8 * (n + k) ≤ length bs → gapless bs k n at ≡ true
+places_back : (bs : List ℕ) (k n at : ℕ) → AllByRecursion Byte bs → 4 + 8 * (n + k) ≤ length bs → gapless bs k n at ≡ true
     → flat_map number_bytes (run_places at (runs_from bs k n)) ≡ part bs (4 + 8 * n) (8 * k)
 unfolding runs_from run_places
 places_back bs zero n at hb l e = refl

@@ -2,7 +2,7 @@
 use Rattle.std.proofs.Common.{◌≡◌, ℕ, zero, suc, ◌+◌, ◌*◌, ◌<◌, ◌≤◌, true, cond, ◌&&◌, eqb, leb, List, [], ◌∷◌, ◌++◌, length, get_or, take, drop, Some, None, Ok, Err, Option, Result, sym, refl, ap, ◌∙◌, append_assoc, append-nil, arith, length-append}
 use Rattle.std.proofs.lemmas.List.{take_at, take_all, drop_at}
 use Rattle.std.proofs.lemmas.Bool.{and_parts, and_from, le-leb, leb-true, eq-eqb, cond-true}
-use Rattle.std.specs.List.{flat_map, AllByRecursion as All}
+use Rattle.std.specs.List.{flat_map, AllByRecursion}
 use Rattle.memory.specs.Bytes.{words_of}
 use Rattle.memory.specs.Tables.{laid_over}
 use Rattle.memory.proofs.Bytes.{four_bytes_of}
@@ -32,7 +32,7 @@ use Rattle.files.proofs.Putting.{number_widths, entry_width, entry_widths, step_
 use Rattle.files.proofs.Recording.{ok_parts, number_read, number_next, entry_reads_back, step_reads_back}
 
 -- number i of those that stand in front
-pub numbers_of : (ns rest : List ℕ) (i : ℕ) → All Number ns → i < length ns → number_at (flat_map number_bytes ns ++ rest) (4 * i) ≡ get_or ns i 0
+pub numbers_of : (ns rest : List ℕ) (i : ℕ) → AllByRecursion Number ns → i < length ns → number_at (flat_map number_bytes ns ++ rest) (4 * i) ≡ get_or ns i 0
 numbers_of [] rest i h l = absurd (omega arith)
 numbers_of (n ∷ ns) rest zero h l =
     ap (λ bs. number_at bs 0) (append_assoc (number_bytes n) (flat_map number_bytes ns) rest) ∙ number_read n (flat_map number_bytes ns ++ rest) h.0
@@ -42,7 +42,7 @@ numbers_of (n ∷ ns) rest (suc i) h l =
     ∙ ap (number_at (number_bytes n ++ (flat_map number_bytes ns ++ rest))) s
     ∙ number_next n (flat_map number_bytes ns ++ rest) (4 * i) ∙ numbers_of ns rest i h.1 (omega arith)
 
-words_read : (ws : List ℕ) → All Number ws → words_of (flat_map number_bytes ws) ≡ ws
+words_read : (ws : List ℕ) → AllByRecursion Number ws → words_of (flat_map number_bytes ws) ≡ ws
 unfolding words_of number_bytes
 words_read [] h = refl
 words_read (w ∷ ws) h =
@@ -54,7 +54,7 @@ part-between a b c i n e f = ap (take n) (drop_at a (b ++ c) i e) ∙ take_at b 
 
 -- records that were written behind k others
 read_behind : {R : Type 0} (Typed : R → Type 0) (enc : R → List ℕ) (d : List ℕ → Result R RecordFault) → ((x : R) → length (enc x) ≡ 12) → ReadsBack Typed enc d
-    → (pre : List ℕ) (xs : List R) (k : ℕ) → length pre ≡ 12 * k → All Typed xs → records_from d (pre ++ flat_map enc xs) (length xs) k ≡ Ok xs
+    → (pre : List ℕ) (xs : List R) (k : ℕ) → length pre ≡ 12 * k → AllByRecursion Typed xs → records_from d (pre ++ flat_map enc xs) (length xs) k ≡ Ok xs
 unfolding records_from
 read_behind Typed enc d width back pre [] k l h = refl
 read_behind {R} Typed enc d width back pre (x ∷ xs) k l h =
@@ -68,7 +68,7 @@ read_behind {R} Typed enc d width back pre (x ∷ xs) k l h =
     ap (λ (r : Result R RecordFault). and_then k r (records_from d bs (length xs) (k + 1))) here ∙ ap (λ (r : Result (List R) BadRecord). and_then k (Ok x) r) rest
 
 records_read : {R : Type 0} (Typed : R → Type 0) (enc : R → List ℕ) (d : List ℕ → Result R RecordFault) → ((x : R) → length (enc x) ≡ 12) → ReadsBack Typed enc d
-    → (xs : List R) → All Typed xs → records_of d (flat_map enc xs) (length xs) ≡ Ok xs
+    → (xs : List R) → AllByRecursion Typed xs → records_of d (flat_map enc xs) (length xs) ≡ Ok xs
 records_read Typed enc d width back xs h = read_behind Typed enc d width back [] xs 0 refl h
 
 order_back : (order : Option AnyOrder) → order_by_code (handed_code order) ≡ order
@@ -81,7 +81,7 @@ order_back (Some Ibm370) = refl
 order_back (Some Ia64) = refl
 
 -- the numbers of a legal header fit their fields
-numbers_fit : (order : Option AnyOrder) (cards w e s : ℕ) → writable (fields_for order cards w e s) ≡ true → All Number (field_numbers (fields_for order cards w e s))
+numbers_fit : (order : Option AnyOrder) (cards w e s : ℕ) → writable (fields_for order cards w e s) ≡ true → AllByRecursion Number (field_numbers (fields_for order cards w e s))
 numbers_fit order cards w e s h =
     let p = and_parts (in_bounds (fields_for order cards w e s)) (leb s 4294967295) h in
     let b = bounded_from (fields_for order cards w e s) p.0 in
@@ -96,7 +96,7 @@ file_length : (a b c d : List ℕ) → length (a ++ (b ++ (c ++ d))) ≡ length 
 file_length a b c d = simp length-append (omega arith)
 
 -- the header of a file that was written
-header_read : (f : Fields) (rest : List ℕ) → All Number (field_numbers f) → fields_of (flat_map number_bytes (field_numbers f) ++ rest) ≡ f
+header_read : (f : Fields) (rest : List ℕ) → AllByRecursion Number (field_numbers f) → fields_of (flat_map number_bytes (field_numbers f) ++ rest) ≡ f
 header_read f rest h =
     let ns = field_numbers f in
     let cards = numbers_of ns rest 0 h (omega arith) in

@@ -3,7 +3,7 @@ use Rattle.std.proofs.Common.{◌≡◌, ℕ, ◌+◌, ◌*◌, ◌/◌, ◌%◌
 use Rattle.std.proofs.ByRecursion.{All-drop, All-get_or}
 use Rattle.std.proofs.lemmas.List.{take_all}
 use Rattle.std.proofs.lemmas.Bool.{and_parts, eqb-true}
-use Rattle.std.specs.List.{AllByRecursion as All}
+use Rattle.std.specs.List.{AllByRecursion}
 use Rattle.memory.specs.Bytes.{four_bytes}
 use Rattle.memory.proofs.Bytes.{four_bytes_of}
 use Rattle.orders.specs.declared.entries.Entry.{Entry}
@@ -48,7 +48,7 @@ bytes_back a b c d h i j k =
     rw (p, e, f, g, q, r, s)
 
 -- the bytes of the first number
-first_back : (bs : List ℕ) → All Byte bs → 4 ≤ length bs → number_bytes (number_at bs 0) ≡ take 4 bs
+first_back : (bs : List ℕ) → AllByRecursion Byte bs → 4 ≤ length bs → number_bytes (number_at bs 0) ≡ take 4 bs
 unfolding number_at
 first_back [] h l = absurd (omega arith)
 first_back (a ∷ []) h l = absurd (omega arith)
@@ -57,13 +57,13 @@ first_back (a ∷ b ∷ c ∷ []) h l = absurd (omega arith)
 first_back (a ∷ b ∷ c ∷ d ∷ rest) h l = bytes_back a b c d h.0 h.1.0 h.1.1.0 h.1.1.1.0
 
 -- the bytes of the number that starts at byte i
-pub number_back : (bs : List ℕ) (i : ℕ) → All Byte bs → i + 4 ≤ length bs → number_bytes (number_at bs i) ≡ part bs i 4
+pub number_back : (bs : List ℕ) (i : ℕ) → AllByRecursion Byte bs → i + 4 ≤ length bs → number_bytes (number_at bs i) ≡ part bs i 4
 number_back bs i h l =
     let k : 4 ≤ length (drop i bs) = simp length-drop (omega arith) in
     ap number_bytes (ap (λ j. number_at bs j) (sym (add-zero i)) ∙ sym (number_after bs i 0)) ∙ first_back (drop i bs) (All-drop Byte i bs h) k
 
 -- a number that stands in bytes fits its field
-pub number_fits : (bs : List ℕ) (i : ℕ) → All Byte bs → i + 4 ≤ length bs → Number (number_at bs i)
+pub number_fits : (bs : List ℕ) (i : ℕ) → AllByRecursion Byte bs → i + 4 ≤ length bs → Number (number_at bs i)
 unfolding number_at
 number_fits bs i h l =
     let a = All-get_or Byte bs i 0 (omega arith) h in
@@ -73,7 +73,7 @@ number_fits bs i h l =
     omega arith
 
 -- the record of the fields that stand in a row
-row_back : (bs : List ℕ) → length bs ≡ 12 → All Byte bs → record_bytes (get_or bs 0 0) (get_or bs 1 0) (get_or bs 2 0) (get_or bs 3 0) (number_at bs 4) (number_at bs 8) ≡ bs
+row_back : (bs : List ℕ) → length bs ≡ 12 → AllByRecursion Byte bs → record_bytes (get_or bs 0 0) (get_or bs 1 0) (get_or bs 2 0) (get_or bs 3 0) (number_at bs 4) (number_at bs 8) ≡ bs
 row_back [] l h = absurd (omega arith)
 row_back (a ∷ []) l h = absurd (omega arith)
 row_back (a ∷ b ∷ []) l h = absurd (omega arith)

@@ -3,7 +3,7 @@ use Rattle.std.proofs.Common.{◌≡◌, ℕ, zero, suc, ◌+◌, ◌*◌, ◌%�
 use Rattle.std.proofs.ByRecursion.{All-take, All-drop}
 use Rattle.std.proofs.lemmas.List.{take_all, drop-drop}
 use Rattle.std.proofs.lemmas.Bool.{and_parts, and_from, le-leb}
-use Rattle.std.specs.List.{flat_map, AllByRecursion as All}
+use Rattle.std.specs.List.{flat_map, AllByRecursion}
 use Rattle.memory.specs.Bytes.{words_of}
 use Rattle.memory.proofs.Bytes.{length-words_of}
 use Rattle.orders.specs.Chosen.{order_by_code}
@@ -39,7 +39,7 @@ abbrev numbers_from : List ℕ → ℕ → ℕ → List ℕ
 numbers_from bs zero i = []
 numbers_from bs (suc k) i = number_at bs i ∷ numbers_from bs k (i + 4)
 
-numbers_back : (bs : List ℕ) (k i : ℕ) → All Byte bs → i + 4 * k ≤ length bs → flat_map number_bytes (numbers_from bs k i) ≡ part bs i (4 * k)
+numbers_back : (bs : List ℕ) (k i : ℕ) → AllByRecursion Byte bs → i + 4 * k ≤ length bs → flat_map number_bytes (numbers_from bs k i) ≡ part bs i (4 * k)
 numbers_back bs zero i h l = refl
 numbers_back bs (suc k) i h l =
     let s : 4 * suc k ≡ 4 + 4 * k = omega arith in
@@ -47,7 +47,7 @@ numbers_back bs (suc k) i h l =
     ∙ ap (λ t. part bs i 4 ++ t) (numbers_back bs k (i + 4) h (omega arith))
     ∙ parts_join bs i 4 (4 * k) (i + 4) refl ∙ ap (part bs i) (sym s)
 
-words_back : (bs : List ℕ) → All Byte bs → length bs % 4 ≡ 0 → flat_map number_bytes (words_of bs) ≡ bs
+words_back : (bs : List ℕ) → AllByRecursion Byte bs → length bs % 4 ≡ 0 → flat_map number_bytes (words_of bs) ≡ bs
 unfolding words_of
 words_back [] h l = refl
 words_back (a ∷ []) h l = absurd (omega arith)
@@ -58,7 +58,7 @@ words_back (a ∷ b ∷ c ∷ d ∷ rest) h l =
     ∙ ap (λ t. a ∷ b ∷ c ∷ d ∷ t) (words_back rest h.1.1.1.1 (omega arith))
 
 -- m records from record k on
-back_from : {R : Type 0} (enc : R → List ℕ) (d : List ℕ → Result R RecordFault) → WritesBack enc d → (bs : List ℕ) (m k : ℕ) (xs : List R) → All Byte bs
+back_from : {R : Type 0} (enc : R → List ℕ) (d : List ℕ → Result R RecordFault) → WritesBack enc d → (bs : List ℕ) (m k : ℕ) (xs : List R) → AllByRecursion Byte bs
     → records_from d bs m k ≡ Ok xs → flat_map enc xs ≡ part bs (12 * k) (12 * m)
 unfolding records_from
 back_from enc d back bs zero k [] h e = refl
@@ -72,7 +72,7 @@ back_from enc d back bs (suc m) k (x ∷ xs) h e =
     ∙ parts_join bs (12 * k) 12 (12 * m) (12 * (k + 1)) (omega arith) ∙ ap (part bs (12 * k)) (sym s)
 
 -- a section that has just its records
-records_back : {R : Type 0} (enc : R → List ℕ) (d : List ℕ → Result R RecordFault) → WritesBack enc d → (bs : List ℕ) (m : ℕ) (xs : List R) → All Byte bs → length bs ≡ 12 * m
+records_back : {R : Type 0} (enc : R → List ℕ) (d : List ℕ → Result R RecordFault) → WritesBack enc d → (bs : List ℕ) (m : ℕ) (xs : List R) → AllByRecursion Byte bs → length bs ≡ 12 * m
     → records_of d bs m ≡ Ok xs → flat_map enc xs ≡ bs
 records_back enc d back bs m xs h l e = back_from enc d back bs m 0 xs h e ∙ take_all (12 * m) bs (omega arith)
 
@@ -135,10 +135,10 @@ accepted bs wr er sr x e =
       step_count = records_length decode_step (steps_section bs) h.steps 0 x.steps b.3;
     }
 
-all_part : (bs : List ℕ) (i n : ℕ) → All Byte bs → All Byte (part bs i n)
+all_part : (bs : List ℕ) (i n : ℕ) → AllByRecursion Byte bs → AllByRecursion Byte (part bs i n)
 all_part bs i n h = All-take Byte n (drop i bs) (All-drop Byte i bs h)
 
-same_bytes : (bs : List ℕ) (x : Reading) → All Byte bs → Accepted bs x → told_bytes x ≡ bs
+same_bytes : (bs : List ℕ) (x : Reading) → AllByRecursion Byte bs → Accepted bs x → told_bytes x ≡ bs
 same_bytes bs x hb a =
     let h = fields_of bs in
     let p = placed bs a.sound in
@@ -151,7 +151,7 @@ same_bytes bs x hb a =
     (records_back encode_step decode_step step_writes_back (steps_section bs) h.steps x.steps (all_part bs (steps_start h) (12 * h.steps) hb) z.steps a.steps)
     ∙ whole_parts bs (4 * h.size) (12 * h.entries) (12 * h.steps) p.end
 
-written_again : (bs : List ℕ) (x : Reading) (out : List ℕ) → All Byte bs → Accepted bs x → length bs ≤ length out
+written_again : (bs : List ℕ) (x : Reading) (out : List ℕ) → AllByRecursion Byte bs → Accepted bs x → length bs ≤ length out
     → writing x.header.order x.header.cards x.words x.entries x.steps out ≡ Ok (length bs)
 written_again bs x out hb a l =
     let h = fields_of bs in

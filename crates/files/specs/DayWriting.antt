@@ -1,6 +1,6 @@
 -- What writing a day file answers, what it leaves in the table of bytes, and that reading undoes it.
 use Rattle.std.specs.Prelude.{◌≡◌, ℕ, zero, suc, ◌+◌, ◌*◌, ◌<◌, Bool, true, ◌&&◌, List, [], ◌∷◌, ◌++◌, length, Some, Result, nat_le, slice_index_or}
-use Rattle.std.specs.List.{flat_map, AllByRecursion as All}
+use Rattle.std.specs.List.{flat_map, AllByRecursion}
 use Rattle.files.specs.Day.{run_count, sound_day, run_part, run_part_of}
 use Rattle.files.specs.Encoding.{number_bytes, Byte}
 use Rattle.files.specs.Writing.{written_if}
@@ -56,4 +56,4 @@ DayReadsBack = (runs : List (List ℕ)) → day_writable runs ≡ true → DayRe
 
 -- the runs of a sound day file can be written, and make the same bytes
 abbrev pub DayWritesBack : Type 0
-DayWritesBack = (bs : List ℕ) → All Byte bs → sound_day bs ≡ true → (day_writable (runs_of bs) ≡ true) × (day_bytes (runs_of bs) ≡ bs)
+DayWritesBack = (bs : List ℕ) → AllByRecursion Byte bs → sound_day bs ≡ true → (day_writable (runs_of bs) ≡ true) × (day_bytes (runs_of bs) ≡ bs)

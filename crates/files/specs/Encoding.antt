@@ -1,6 +1,6 @@
 -- The bytes of numbers, entries and steps, and that reading undoes writing and writing reading.
 use Rattle.std.specs.Prelude.{◌≡◌, ℕ, ◌/◌, ◌%◌, ◌<◌, List, [], ◌∷◌, ◌++◌, Ok, Result}
-use Rattle.std.specs.List.{AllByRecursion as All}
+use Rattle.std.specs.List.{AllByRecursion}
 use Rattle.orders.specs.declared.entries.Entry.{Entry}
 use Rattle.orders.specs.declared.entries.Entry.TheVariants.{Load, Store, Barrier}
 use Rattle.orders.specs.declared.entries.Mark.{Mark}
@@ -74,4 +74,4 @@ ReadsBack {R} Typed encode decode = (x : R) → Typed x → decode (encode x) �
 
 -- what is read is written again as the bytes that it was read from
 abbrev pub WritesBack : {R : Type 0} → (R → List ℕ) → (List ℕ → Result R RecordFault) → Type 0
-WritesBack {R} encode decode = (bs : List ℕ) (x : R) → All Byte bs → decode bs ≡ Ok x → encode x ≡ bs
+WritesBack {R} encode decode = (bs : List ℕ) (x : R) → AllByRecursion Byte bs → decode bs ≡ Ok x → encode x ≡ bs

@@ -1,6 +1,6 @@
 -- Reading a run file undoes writing it, and writing it undoes reading it.
 use Rattle.std.specs.Prelude.{◌≡◌, ℕ, ◌≤◌, true, List, length, take, Ok, Option}
-use Rattle.std.specs.List.{AllByRecursion as All}
+use Rattle.std.specs.List.{AllByRecursion}
 use Rattle.orders.specs.declared.chosen.AnyOrder.{AnyOrder}
 use Rattle.files.specs.Encoding.{Byte, Number, CardEntryTyped, StepTyped}
 use Rattle.files.specs.Reading.{Reading, reading}
@@ -27,7 +27,7 @@ RunReadsBack =
     (order : Option AnyOrder) (cards : ℕ) (words : List ℕ) (entries : List CardEntry) (steps : List Step)
     (word_rows : List ℕ) (entry-rows : List CardEntry) (step-rows : List Step)
     → writable (fields_for order cards (length words) (length entries) (length steps)) ≡ true
-    → All Number words → All CardEntryTyped entries → All StepTyped steps
+    → AllByRecursion Number words → AllByRecursion CardEntryTyped entries → AllByRecursion StepTyped steps
     → length words ≤ length word_rows → length entries ≤ length entry-rows → length steps ≤ length step-rows
     → reading (file_bytes order cards words entries steps) word_rows entry-rows step-rows ≡ Ok (handed order cards words entries steps)
 
@@ -37,7 +37,7 @@ WrittenReadsBack =
     (order : Option AnyOrder) (cards : ℕ) (words : List ℕ) (entries : List CardEntry) (steps : List Step) (out : List ℕ) (n : ℕ)
     (word_rows : List ℕ) (entry-rows : List CardEntry) (step-rows : List Step)
     → writing order cards words entries steps out ≡ Ok n
-    → All Number words → All CardEntryTyped entries → All StepTyped steps
+    → AllByRecursion Number words → AllByRecursion CardEntryTyped entries → AllByRecursion StepTyped steps
     → length words ≤ length word_rows → length entries ≤ length entry-rows → length steps ≤ length step-rows
     → reading (take n (bytes_after (writing order cards words entries steps out) (file_bytes order cards words entries steps) out)) word_rows entry-rows step-rows
     ≡ Ok (handed order cards words entries steps)
@@ -46,5 +46,5 @@ WrittenReadsBack =
 abbrev pub RunWritesBack : Type 0
 RunWritesBack =
     (bs : List ℕ) (word_rows : List ℕ) (entry-rows : List CardEntry) (step-rows : List Step) (x : Reading) (out : List ℕ)
-    → All Byte bs → reading bs word_rows entry-rows step-rows ≡ Ok x → length bs ≤ length out
+    → AllByRecursion Byte bs → reading bs word_rows entry-rows step-rows ≡ Ok x → length bs ≤ length out
     → (writing x.header.order x.header.cards x.words x.entries x.steps out ≡ Ok (length bs)) × (told_bytes x ≡ bs)
