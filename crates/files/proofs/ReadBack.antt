@@ -20,13 +20,13 @@ use Rattle.files.specs.Sections.{and_then, records_from, records_of}
 use Rattle.files.specs.Writing.{handed_code, fields_for, field_numbers, writable, file_bytes, bytes_after}
 use Rattle.files.specs.declared.header.Fields.{Fields}
 use Rattle.files.specs.declared.header.Header.{Header}
-use Rattle.files.specs.declared.header.HeaderFault.TheVariants as of-header
+use Rattle.files.specs.declared.header.HeaderFault.TheVariants as of_header
 use Rattle.files.specs.declared.records.CardEntry.{CardEntry}
 use Rattle.files.specs.declared.records.RecordFault.{RecordFault}
 use Rattle.files.specs.declared.sections.BadRecord.{BadRecord}
 use Rattle.files.specs.declared.step.Step.{Step}
 use Rattle.files.specs.declared.write_fault.WriteFault.{WriteFault}
-use Rattle.files.specs.declared.write_fault.WriteFault.TheVariants as of-write
+use Rattle.files.specs.declared.write_fault.WriteFault.TheVariants as of_write
 use Rattle.files.proofs.Laying.{bounded_from}
 use Rattle.files.proofs.Putting.{number_widths, entry_width, entry_widths, step_width, step_widths, sections_length}
 use Rattle.files.proofs.Recording.{ok_parts, number_read, number_next, entry_reads_back, step_reads_back}
@@ -202,8 +202,8 @@ pub written_reads_back : WrittenReadsBack
 written_reads_back order cards words entries steps out n wr er sr e hw he hs lw le ls =
     let f = fields_for order cards (length words) (length entries) (length steps) in
     let file = file_bytes order cards words entries steps in
-    let p = ok_parts (writable f) (cond (leb (file_end f) (length out)) (Ok (file_end f)) (Err of-write.TooShort)) (of-write.Header of-header.Broken) n e in
-    let q = ok_parts (leb (file_end f) (length out)) (Ok (file_end f)) of-write.TooShort n p.1 in
+    let p = ok_parts (writable f) (cond (leb (file_end f) (length out)) (Ok (file_end f)) (Err of_write.TooShort)) (of_write.Header of_header.Broken) n e in
+    let q = ok_parts (leb (file_end f) (length out)) (Ok (file_end f)) of_write.TooShort n p.1 in
     let fits = leb-true (file_end f) (length out) q.0 in
     let end : file_end f ≡ n = same_ok (file_end f) n q.1 in
     let len = written_length order cards words entries steps ∙ end in

@@ -18,8 +18,8 @@ use Rattle.files.specs.Sections.{records_from, records_of}
 use Rattle.files.specs.Writing.{handed_code, fields_for, field_numbers, writable, writing}
 use Rattle.files.specs.declared.header.Fields.{Fields}
 use Rattle.files.specs.declared.header.Header.{Header}
-use Rattle.files.specs.declared.header.HeaderFault.TheVariants as of-header
-use Rattle.files.specs.declared.read.ReadFault.TheVariants as of-read
+use Rattle.files.specs.declared.header.HeaderFault.TheVariants as of_header
+use Rattle.files.specs.declared.read.ReadFault.TheVariants as of_read
 use Rattle.files.specs.declared.records.CardEntry.{CardEntry}
 use Rattle.files.specs.declared.records.RecordFault.{RecordFault}
 use Rattle.files.specs.declared.sections.BadRecord.{BadRecord}
@@ -117,8 +117,8 @@ accepted bs wr er sr x e =
     let h = fields_of bs in
     let file = file_read (header_of bs) (words_section bs) (entries_section bs) (steps_section bs) in
     let room = has_room (header_of bs) (length wr) (length er) (length sr) in
-    let s = ok_parts (sound_run bs) (cond room file (Err of-read.TooShort)) (of-read.Header of-header.Broken) x e in
-    let r = ok_parts room file of-read.TooShort x s.1 in
+    let s = ok_parts (sound_run bs) (cond room file (Err of_read.TooShort)) (of_read.Header of_header.Broken) x e in
+    let r = ok_parts room file of_read.TooShort x s.1 in
     let b = both_parts (header_of bs) (words_of (words_section bs)) (records_of decode_entry (entries_section bs) h.entries) (records_of decode_step (steps_section bs) h.steps) x r.1 in
     let z = sized bs s.0 in
     let w = length-words_of (words_section bs) in

@@ -8,9 +8,9 @@ use Rattle.files.specs.Run.{sound_run, words_section, entries_section, steps_sec
 use Rattle.files.specs.Sections.{records_of, fault_in}
 use Rattle.memory.specs.Tables.{laid_over}
 use Rattle.files.specs.declared.header.Header.{Header}
-use Rattle.files.specs.declared.header.HeaderFault.TheVariants as of-header
+use Rattle.files.specs.declared.header.HeaderFault.TheVariants as of_header
 use Rattle.files.specs.declared.read.ReadFault.{ReadFault}
-use Rattle.files.specs.declared.read.ReadFault.TheVariants as of-read
+use Rattle.files.specs.declared.read.ReadFault.TheVariants as of_read
 use Rattle.files.specs.declared.sections.BadRecord.{BadRecord}
 use Rattle.files.specs.declared.records.CardEntry.{CardEntry}
 use Rattle.files.specs.declared.step.Step.{Step}
@@ -29,8 +29,8 @@ has_room h words entries steps = nat_le h.size words && nat_le h.entries entries
 -- what the records come to: entries are read before steps
 abbrev pub both_read : Header → List ℕ → Result (List CardEntry) BadRecord → Result (List Step) BadRecord → Result Reading ReadFault
 both_read h ws (Ok es) (Ok ss) = Ok (record { header = h; words = ws; entries = es; steps = ss })
-both_read h ws (Ok es) (Err b) = Err (of-read.Step b.place b.fault)
-both_read h ws (Err b) steps = Err (of-read.Entry b.place b.fault)
+both_read h ws (Ok es) (Err b) = Err (of_read.Step b.place b.fault)
+both_read h ws (Err b) steps = Err (of_read.Entry b.place b.fault)
 
 -- a header and the three sections behind it
 abbrev pub file_read : Header → List ℕ → List ℕ → List ℕ → Result Reading ReadFault
@@ -43,8 +43,8 @@ reading bs words entries steps =
     cond (sound_run bs)
     (cond (has_room (header_of bs) (length words) (length entries) (length steps))
     (file_read (header_of bs) (words_section bs) (entries_section bs) (steps_section bs))
-    (Err of-read.TooShort))
-    (Err (of-read.Header of-header.Broken))
+    (Err of_read.TooShort))
+    (Err (of_read.Header of_header.Broken))
 
 -- the first record that is refused: 16, with its layer and place
 abbrev pub record_refusal : Option BadRecord → Option BadRecord → Refusal

@@ -7,11 +7,11 @@ use Rattle.orders.specs.declared.chosen.AnyOrder.{AnyOrder}
 use Rattle.files.specs.Encoding.{number_bytes, encode_entry, encode_step}
 use Rattle.files.specs.Header.{in_bounds, file_end}
 use Rattle.files.specs.declared.header.Fields.{Fields}
-use Rattle.files.specs.declared.header.HeaderFault.TheVariants as of-header
+use Rattle.files.specs.declared.header.HeaderFault.TheVariants as of_header
 use Rattle.files.specs.declared.records.CardEntry.{CardEntry}
 use Rattle.files.specs.declared.step.Step.{Step}
 use Rattle.files.specs.declared.write_fault.WriteFault.{WriteFault}
-use Rattle.files.specs.declared.write_fault.WriteFault.TheVariants as of-write
+use Rattle.files.specs.declared.write_fault.WriteFault.TheVariants as of_write
 
 -- the bytes of a table, with new ones put from byte `at` on
 abbrev pub written_at : List ℕ → ℕ → List ℕ → List ℕ
@@ -52,7 +52,7 @@ file_bytes order cards words entries steps =
 -- what writing a file answers, by whether it is a legal one, its length and the table's: its length, else 15 before 1
 abbrev pub written_if : Bool → ℕ → ℕ → Result ℕ WriteFault
 written_if legal end len =
-    cond legal (cond (nat_le end len) (Ok end) (Err of-write.TooShort)) (Err (of-write.Header of-header.Broken))
+    cond legal (cond (nat_le end len) (Ok end) (Err of_write.TooShort)) (Err (of_write.Header of_header.Broken))
 
 -- what writing a run file with this header answers
 abbrev pub written_with : Fields → ℕ → Result ℕ WriteFault

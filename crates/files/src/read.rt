@@ -3,7 +3,7 @@ ghost use Rattle.files.specs.Faults.{RefusedWith, read_refusal};
 ghost use Rattle.files.specs.Reading.{has_room, file_read, reading, expected_refusal, header_read, words_after, entries_after, steps_after};
 ghost use Rattle.files.specs.Records.{decode_entry, decode_step};
 ghost use Rattle.files.specs.Sections.{records_of, fault_in};
-ghost use Rattle.files.specs.declared.read.ReadFault.TheVariants as of-read;
+ghost use Rattle.files.specs.declared.read.ReadFault.TheVariants as of_read;
 ghost use Rattle.std.specs.Prelude.{◌≡◌, None, Err, MatchResult, OnOk};
 
 use crate::header::{Header, HeaderFault};
@@ -24,7 +24,7 @@ pub enum ReadFault {
 }
 
 impl From<HeaderFault> for ReadFault {
-    ghost from_gives = { λ e r. r ≡ of-read.Header e };
+    ghost from_gives = { λ e r. r ≡ of_read.Header e };
 
     fn from(fault: HeaderFault) -> ReadFault {
         ReadFault::Header(fault)

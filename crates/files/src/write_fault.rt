@@ -1,6 +1,6 @@
 // Why a file is not written.
 ghost use Rattle.files.specs.Faults.{write_fault_number};
-ghost use Rattle.files.specs.declared.write_fault.WriteFault.TheVariants as of-write;
+ghost use Rattle.files.specs.declared.write_fault.WriteFault.TheVariants as of_write;
 ghost use Rattle.std.specs.Prelude.{◌≡◌};
 
 use crate::header::HeaderFault;
@@ -28,7 +28,7 @@ impl WriteFault {
 }
 
 impl From<HeaderFault> for WriteFault {
-    ghost from_gives = { λ e r. r ≡ of-write.Header e };
+    ghost from_gives = { λ e r. r ≡ of_write.Header e };
 
     fn from(fault: HeaderFault) -> WriteFault {
         WriteFault::Header(fault)
