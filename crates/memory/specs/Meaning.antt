@@ -9,7 +9,7 @@ read_of [] a = Err NoSuchAddress
 read_of (w ∷ ws) zero = Ok w
 read_of (w ∷ ws) (suc a) = read_of ws a
 
--- what a write at an address answers; the words are then `set ws a w`, which changes nothing where the address is not below the size
+-- what a write at an address answers; the words are then `slice_set ws a w`, which changes nothing where the address is not below the size
 abbrev pub write_of : {W : Type 0} → List W → ℕ → Result (Unit {0}) MemoryFault
 write_of ws a = cond (nat_lt a (length ws)) (Ok tt) (Err NoSuchAddress)
 

@@ -1,4 +1,4 @@
-ghost use Rattle.std.specs.Prelude.{◌≡◌, ◌<◌, ◌≤◌, true, length, is_ok as isOk, IfOk, OnErr};
+ghost use Rattle.std.specs.Prelude.{◌≡◌, ◌<◌, ◌≤◌, true, length, is_ok as outcome_is_ok, IfOk, OnErr};
 ghost use Rattle.audit.specs.Alone.{verdict_of};
 ghost use Rattle.files.specs.Day.{sound_day, run_count, run_part};
 ghost use Rattle.report.specs.Lines.{line_bytes};
@@ -62,7 +62,7 @@ pub fn report_day(
     ensures heading { kept.new.heading ≡ kept.old.heading }
     ensures printed { AllPrinted (page_of text.old) (report_lines kept.old.heading input.now) (page_of text.new) result }
     ensures stops { OnErr result (Stopped (page_of text.old) (report_lines kept.old.heading input.now) (page_of text.new)) }
-    ensures enough { 2112 ≤ room_of (page_of text.old) → isOk result ≡ true }
+    ensures enough { 2112 ≤ room_of (page_of text.old) → outcome_is_ok result ≡ true }
     ensures same { text.new.bytes.ghost_name ≡ text.old.bytes.ghost_name }
 {
     match DayFile::open(input) {
