@@ -1,5 +1,5 @@
-use Rattle.std.proofs.Common.{◌≡◌, ℕ, sym, refl, ◌∙◌, arith}
-use Rattle.audit.specs.Alone.{fresh, verdict_of}
+use Rattle.std.proofs.Common.{◌≡◌, ℕ, refl, arith}
+use Rattle.audit.specs.Alone.{fresh}
 use Rattle.audit.proofs.Fresh.{alone, alone_ok}
 use Rattle.audit.proofs.alone.audit_alone.Goals as goal
 
@@ -7,8 +7,7 @@ pub returns-in-Ok : goal.returns-in-Ok
 unfolding fresh
 returns-in-Ok c =
     let e = alone c.args.bytes.now _ _ refl c.in-Ok.ensures.audited in
-    let v : c.in-Ok.verdict ≡ verdict_of c.args.bytes.now = cc in
-    record { verdict = v; ok = λ n h. alone_ok c.args.bytes.now n (sym v ∙ h) }
+    record { verdict = cc; ok = λ n h. alone_ok c.args.bytes.now n cc }
 
 pub returns-in-Err-TooShort : goal.returns-in-Err-TooShort
 unfolding fresh
