@@ -1,6 +1,5 @@
 -- The audit of one run file.
-use Rattle.std.specs.Prelude.{ℕ, ◌*◌, Bool, false, cond, ◌&&◌, List, length, Some, None, Option, Result, nat_le}
-use Rattle.std.specs.declared.result.Result.TheVariants as result
+use Rattle.std.specs.Prelude.{ℕ, ◌*◌, Bool, false, cond, ◌&&◌, List, length, Some, None, Option, Ok, Err, Result, nat_le}
 use Rattle.orders.specs.declared.chosen.AnyOrder.{AnyOrder}
 use Rattle.run.specs.Drafts.{Drafted}
 use Rattle.run.specs.Rows.{no_card, no_cell, filled}
@@ -9,20 +8,23 @@ use Rattle.run.specs.declared.rows.Cell.{Cell}
 use Rattle.run.specs.declared.rows.CodeRow.{CodeRow}
 use Rattle.run.specs.declared.rows.CardRecord.{CardRecord}
 use Rattle.run.specs.declared.rows.StepRow.{StepRow}
+use Rattle.run.specs.declared.rows.Tables.{Tables as Lent}
 use Rattle.memory.specs.Bytes.{words_of}
 use Rattle.files.specs.Header.{header_of, order_meant}
 use Rattle.files.specs.Run.{sound_run, words_section, entries_section, steps_section}
 use Rattle.memory.specs.Tables.{laid_over}
 use Rattle.files.specs.declared.header.Header.{Header}
 use Rattle.files.specs.declared.header.HeaderFault.TheVariants.{Broken}
+use Rattle.audit.specs.declared.fault.FileFault.{FileFault}
 use Rattle.audit.specs.declared.fault.FileFault.TheVariants as file
-use Rattle.audit.specs.declared.fault.Stop.{Stop}
-use Rattle.audit.specs.declared.verdict.Verdict.{Verdict}
-use Rattle.audit.specs.declared.verdict.Verdict.TheVariants as verdict
 use Rattle.audit.specs.declared.verdict.AuditFault.{AuditFault}
 use Rattle.audit.specs.declared.verdict.AuditFault.TheVariants as refusal
-use Rattle.audit.specs.Turns.{worked}
+use Rattle.audit.specs.Turns.{Stop, worked}
 use Rattle.audit.specs.Records.{entry_one, step_one}
+
+-- what an audit comes to: the number of its steps, or the first refusal
+abbrev pub Verdict : Type 0
+Verdict = Result ℕ FileFault
 
 -- the tables lent to an audit; `words` is the run's memory
 pub record Tables : Type 0 where
@@ -40,18 +42,17 @@ pub record Audited : Type 0 where
 abbrev pub tables : List ℕ → List CardRecord → List (CodeRow ℕ) → List (Cell ℕ) → List (StepRow ℕ) → Tables
 tables words cards code cells steps = record { words = words; cards = cards; code = code; cells = cells; steps = steps }
 
+-- the run's memory, and the lent tables as they are now
+abbrev pub tables_of : List ℕ → Lent ℕ → Tables
+tables_of words t = tables words t.cards.now t.code.now t.cells.now t.steps.now
+
 abbrev pub world_left : World ℕ → Tables
 world_left w = tables w.memory w.cards w.code w.cells w.steps
 
 -- after the steps: ok if none was refused
 abbrev pub after_steps : World ℕ → Option Stop → Audited
-after_steps w None = record { verdict = verdict.Ok w.used; left = world_left w }
-after_steps w (Some s) = record { verdict = verdict.No (file.Step s); left = world_left w }
-
--- the verdict by what taking the steps answers
-abbrev pub step_verdict : Result (Unit {0}) Stop → ℕ → Verdict
-step_verdict (result.Ok u) used = verdict.Ok used
-step_verdict (result.Err s) used = verdict.No (file.Step s)
+after_steps w None = record { verdict = Ok w.used; left = world_left w }
+after_steps w (Some s) = record { verdict = Err (file.Step s); left = world_left w }
 
 -- the run right after starting: all cells absent, no step taken
 abbrev pub started : Drafted ℕ → List (Cell ℕ) → List (StepRow ℕ) → World ℕ
@@ -72,7 +73,7 @@ steps_audited section count w = after_steps (worked (step_one section) count 0 w
 -- after the entries: the steps, if none was refused
 abbrev pub after_entries : List ℕ → ℕ → List (Cell ℕ) → List (StepRow ℕ) → Drafted ℕ → Option Stop → Audited
 after_entries section count cells steps d None = steps_audited section count (started d cells steps)
-after_entries section count cells steps d (Some s) = record { verdict = verdict.No (file.Entry s); left = tables d.memory d.cards d.code cells steps }
+after_entries section count cells steps d (Some s) = record { verdict = Err (file.Entry s); left = tables d.memory d.cards d.code cells steps }
 
 -- the entries and then the steps, from a draft on
 abbrev pub draft_audited : AnyOrder → Header → List ℕ → List ℕ → Drafted ℕ → List (Cell ℕ) → List (StepRow ℕ) → Audited
@@ -101,7 +102,7 @@ pub record AuditOutcome : Type 0 where
 -- the run's words in the first rows of the table, and the other rows as they were
 abbrev pub words_back : List ℕ → Audited → AuditOutcome
 words_back old a = record {
-  answer = result.Ok a.verdict;
+  answer = Ok a.verdict;
   left = tables (laid_over a.left.words old) a.left.cards a.left.code a.left.cells a.left.steps;
 }
 
@@ -117,5 +118,5 @@ audited bs t =
     cond (sound_run bs)
     (cond (roomy (header_of bs) (length t.words) (length t.cards) (length t.code) (length t.cells))
     (words_back t.words (file_audited bs t))
-    (record { answer = result.Err refusal.TooShort; left = t }))
-    (record { answer = result.Ok (verdict.No (file.Header Broken)); left = t })
+    (record { answer = Err refusal.TooShort; left = t }))
+    (record { answer = Ok (Err (file.Header Broken)); left = t })

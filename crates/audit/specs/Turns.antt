@@ -1,7 +1,11 @@
 -- Records worked in turn, up to the first that is refused.
 use Rattle.std.specs.Prelude.{ℕ, zero, suc, ◌+◌, Some, None, Ok, Err, Option, Result}
 use Rattle.audit.specs.declared.fault.RowFault.{RowFault}
-use Rattle.audit.specs.declared.fault.Stop.{Stop}
+use Rattle.files.specs.declared.records.BadRecord.{BadRecord}
+
+-- a record that is refused, with its place
+abbrev pub Stop : Type 0
+Stop = BadRecord RowFault
 
 -- one record: whether it is accepted, and what it leaves
 pub record Taken (D : Type 0) : Type 0 where

@@ -1,56 +1,48 @@
 // The audit of one run file.
 ghost use Rattle.std.specs.Prelude.{◌≡◌, ℕ, ◌*◌, ◌≤◌, true, length, Ok};
 ghost use Rattle.memory.specs.Bytes.{words_of};
+ghost use Rattle.run.specs.Runs.{SameTables};
 ghost use Rattle.audit.specs.Accepted.{Accepted};
-ghost use Rattle.audit.specs.declared.verdict.Verdict.TheVariants as verdict;
-ghost use Rattle.audit.specs.Audit.{tables, records_audited, roomy, words_back, audited};
+ghost use Rattle.audit.specs.Audit.{tables_of, records_audited, roomy, words_back, audited};
 
 use crate::fault::FileFault;
 use crate::records::{Done, work_records};
+use crate::sound::SoundFile;
 use crate::verdict::{AuditFault, Verdict};
-use files::header::Header;
 use files::run_file::RunFile;
 use files::words::words_into;
 use memory::copying::copy_words;
 use memory::word_table::WordTable;
-use run::rows::{CardRecord, Cell, CodeRow, StepRow};
+use run::rows::Tables;
 
 const MAX_SIZE: usize = 1024;
 
-// Whether tables of so many rows can hold the run that the header announces.
-fn has_room(header: &Header, words: usize, cards: usize, code: usize, cells: usize) -> bool
-    requires { header.now.cards ≤ 8 }
-    ensures { result ≡ roomy header.now words cards code cells }
+// Whether the tables can hold the run that the header announces.
+fn has_room(sound: &SoundFile<'_>, words: &[u32], tables: &Tables<'_, u32>) -> bool
+    ensures { result ≡ roomy sound.now.file.header (length words.now) (length tables.now.cards.now) (length tables.now.code.now) (length tables.now.cells.now) }
 {
-    let count = header.cards as usize;
-    let size = header.size as usize;
-    size <= words && count <= cards && 256 * count <= code && count * size <= cells
+    let count = sound.file.header.cards as usize;
+    let size = sound.file.header.size as usize;
+    size <= words.len()
+        && count <= tables.cards.len()
+        && 256 * count <= tables.code.len()
+        && count * size <= tables.cells.len()
 }
 
 // Works the records over a table of as many words as the run's memory has, and copies the words that they leave.
 fn audit_over(
     own: &mut [u32],
-    file: &RunFile<'_>,
+    sound: &SoundFile<'_>,
     words: &mut [u32],
-    cards: &mut [CardRecord],
-    code: &mut [CodeRow<u32>],
-    cells: &mut [Cell<u32>],
-    steps: &mut [StepRow<u32>],
+    tables: &mut Tables<'_, u32>,
 ) -> Verdict
-    requires own { (length own.old ≡ file.now.header.size) × (length file.now.words.now ≡ 4 * file.now.header.size) }
-    requires bounds { (1 ≤ file.now.header.cards) × ((file.now.header.cards ≤ 8) × ((1 ≤ file.now.header.size) × (file.now.header.size ≤ 1024))) }
-    requires room { (file.now.header.cards ≤ length cards.old) × (file.now.header.cards * file.now.header.size ≤ length cells.old) }
-    ensures { record { answer = Ok result; left = tables words.new cards.new code.new cells.new steps.new } ≡ words_back words.old (records_audited file.now.header file.now.entries.now file.now.steps.now (tables (words_of file.now.words.now) cards.old code.old cells.old steps.old)) }
+    requires own { length own.old ≡ sound.now.file.header.size }
+    requires room { (sound.now.file.header.cards ≤ length tables.old.cards.now) × (sound.now.file.header.cards * sound.now.file.header.size ≤ length tables.old.cells.now) }
+    ensures audited { record { answer = Ok result; left = tables_of words.new tables.new } ≡ words_back words.old (records_audited sound.now.file.header sound.now.file.entries.now sound.now.file.steps.now (tables_of (words_of sound.now.file.words.now) tables.old)) }
+    ensures tables { SameTables tables.old tables.new }
 {
-    words_into(file.words, own);
-    let Done { memory, verdict } = work_records(
-        WordTable::over(own),
-        cards,
-        code,
-        cells,
-        steps,
-        file,
-    );
+    words_into(sound.file.words, own);
+    let Done { memory, verdict } = work_records(WordTable::over(own), tables, sound);
     copy_words(&memory, words);
     verdict
 }
@@ -59,28 +51,21 @@ fn audit_over(
 pub fn audit_run(
     bytes: &[u8],
     words: &mut [u32],
-    cards: &mut [CardRecord],
-    code: &mut [CodeRow<u32>],
-    cells: &mut [Cell<u32>],
-    steps: &mut [StepRow<u32>],
+    tables: &mut Tables<'_, u32>,
 ) -> Result<Verdict, AuditFault>
-    ensures audited { record { answer = result; left = tables words.new cards.new code.new cells.new steps.new } ≡ audited bytes.now (tables words.old cards.old code.old cells.old steps.old) }
-    ensures ok { (n : ℕ) → result ≡ Ok (verdict.Ok n) → Accepted bytes.now (tables words.old cards.old code.old cells.old steps.old) n }
+    ensures audited { record { answer = result; left = tables_of words.new tables.new } ≡ audited bytes.now (tables_of words.old tables.old) }
+    ensures ok { (n : ℕ) → result ≡ Ok (Ok n) → Accepted bytes.now (tables_of words.old tables.old) n }
+    ensures tables { SameTables tables.old tables.new }
 {
-    let file = match RunFile::open(bytes) {
-        Ok(file) => file,
-        Err(fault) => return Ok(Verdict::No(FileFault::Header(fault))),
+    // Kept: a `match`, since a broken header is a verdict and no error of the audit, which `?` would return.
+    let sound = match RunFile::open(bytes) {
+        Ok(file) => SoundFile { file },
+        Err(fault) => return Ok(Err(FileFault::Header(fault))),
     };
-    if !has_room(
-        &file.header,
-        words.len(),
-        cards.len(),
-        code.len(),
-        cells.len(),
-    ) {
+    if !has_room(&sound, words, tables) {
         return Err(AuditFault::TooShort);
     }
-    let mut own = [0u32; MAX_SIZE];
-    let size = file.header.size as usize;
-    Ok(audit_over(&mut own[0..size], &file, words, cards, code, cells, steps))
+    let mut own = [0; MAX_SIZE];
+    let size = sound.file.header.size as usize;
+    Ok(audit_over(&mut own[..size], &sound, words, tables))
 }

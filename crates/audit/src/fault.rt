@@ -4,31 +4,28 @@ ghost use Rattle.audit.specs.Faults.{row_fault_number, file_fault_number, file_f
 ghost use Rattle.audit.specs.declared.fault.RowFault.TheVariants as row;
 
 use files::header::HeaderFault;
-use files::records::RecordFault;
+use files::records::{BadRecord, RecordFault};
 use run::fault::{ProgramFault, StepFault};
 
 // A record of a file is against the layout, or its entry or step is refused.
-#[derive(Clone, Copy)]
+#[derive(Clone, Copy, PartialEq, Eq, Debug)]
 pub enum RowFault {
     Record(RecordFault),
     Program(ProgramFault),
     Step(StepFault),
 }
 
-// The first record that is refused, counted among the entries or among the steps.
-#[derive(Clone, Copy)]
-pub struct Stop {
-    pub place: u32,
-    pub fault: RowFault,
-}
+// The first record that is refused, with its place among the entries or among the steps.
+pub type Stop = BadRecord<RowFault>;
 
-#[derive(Clone, Copy)]
+#[derive(Clone, Copy, PartialEq, Eq, Debug)]
 pub enum FileFault {
     Header(HeaderFault),
     Entry(Stop),
     Step(Stop),
 }
 
+// These are written out: the `From` that thiserror derives has no clause, and the audit's clauses name the fault.
 impl From<RecordFault> for RowFault {
     ghost from_gives = { λ e r. r ≡ row.Record e };
 
@@ -54,7 +51,7 @@ impl From<StepFault> for RowFault {
 }
 
 impl RowFault {
-    // The refusal's number.
+    // The refusal's number. Kept: a fault has a number, a layer and a place, and a `From` for `u32` would not say which.
     pub fn number(&self) -> u32
         ensures { result ≡ row_fault_number self.now }
     {
@@ -67,18 +64,17 @@ impl RowFault {
 }
 
 impl FileFault {
-    // The refusal's number.
+    // The refusal's number. Kept: a fault has a number, a layer and a place, and a `From` for `u32` would not say which.
     pub fn number(&self) -> u32
         ensures { result ≡ file_fault_number self.now }
     {
         match self {
             FileFault::Header(fault) => fault.number(),
-            FileFault::Entry(stop) => stop.fault.number(),
-            FileFault::Step(stop) => stop.fault.number(),
+            FileFault::Entry(stop) | FileFault::Step(stop) => stop.fault.number(),
         }
     }
 
-    // Where it arose: 2 the header, 3 an entry, 4 a step.
+    // Where it arose: 2 the header, 3 an entry, 4 a step. Kept: a number, as a report's line tells it; by name the variants say it.
     pub fn layer(&self) -> u32
         ensures { result ≡ file_fault_layer self.now }
     {
@@ -89,14 +85,13 @@ impl FileFault {
         }
     }
 
-    // Which entry or step; 0 for the header.
+    // Which entry or step; 0 for the header. Kept: a number, as a report's line tells it, and 0 is what it tells of a header.
     pub fn place(&self) -> u32
         ensures { result ≡ file_fault_place self.now }
     {
         match self {
             FileFault::Header(_) => 0,
-            FileFault::Entry(stop) => stop.place,
-            FileFault::Step(stop) => stop.place,
+            FileFault::Entry(stop) | FileFault::Step(stop) => stop.place,
         }
     }
 }

@@ -6,5 +6,6 @@ pub mod audit;
 mod entries;
 pub mod fault;
 mod records;
+mod sound;
 mod steps;
 pub mod verdict;

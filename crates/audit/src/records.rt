@@ -1,19 +1,18 @@
 // The records of a run file, worked over any memory that holds the initial words.
 ghost use Rattle.std.specs.Prelude.{◌≡◌, ◌*◌, ◌≤◌, length};
-ghost use Rattle.run.specs.Runs.{draft_of, world_of};
+ghost use Rattle.run.specs.Runs.{SameTables, draft_of, world_of};
 ghost use Rattle.files.specs.Header.{order_meant};
-ghost use Rattle.audit.specs.Audit.{tables, started, steps_audited, draft_audited, records_audited, step_verdict};
+ghost use Rattle.audit.specs.Audit.{tables_of, started, steps_audited, records_audited};
 
 use crate::entries::take_entries;
-use crate::fault::{FileFault, Stop};
+use crate::fault::FileFault;
+use crate::sound::SoundFile;
 use crate::steps::take_steps;
 use crate::verdict::Verdict;
-use files::header::HeaderFault;
 use files::run_file::RunFile;
 use memory::interface::Memory;
 use orders::chosen::AnyOrder;
-use run::life::{Unopened, Unstarted};
-use run::rows::{CardRecord, Cell, CodeRow, StepRow};
+use run::rows::Tables;
 use run::states::{Draft, Running};
 
 // What the records come to, and the run's memory.
@@ -22,100 +21,48 @@ pub(crate) struct Done<M> {
     pub(crate) verdict: Verdict,
 }
 
-fn verdict_of(stopped: Result<(), Stop>, used: u32) -> Verdict
-    ensures { result ≡ step_verdict stopped used }
-{
-    match stopped {
-        Ok(()) => Verdict::Ok { steps: used },
-        Err(stop) => Verdict::No(FileFault::Step(stop)),
-    }
-}
-
 // The steps, by a running run.
 fn run_steps<M: Memory<Word = u32>>(
-    mut run: Running<u32, M>,
-    cards: &mut [CardRecord],
-    code: &mut [CodeRow<u32>],
-    cells: &mut [Cell<u32>],
-    steps: &mut [StepRow<u32>],
+    mut run: Running<M>,
+    tables: &mut Tables<'_, u32>,
     file: &RunFile<'_>,
 ) -> Done<M>
-    ensures { record { verdict = result.verdict; left = tables (M.meaning result.memory) cards.new code.new cells.new steps.new } ≡ steps_audited file.now.steps.now file.now.header.steps (world_of M.meaning run cards.old code.old cells.old steps.old) }
+    ensures audited { record { verdict = result.verdict; left = tables_of (M.meaning result.memory) tables.new } ≡ steps_audited file.now.steps.now file.now.header.steps (world_of M.meaning run tables.old) }
+    ensures tables { SameTables tables.old tables.new }
 {
-    let stopped = take_steps(&mut run, cards, code, cells, steps, file, file.header.steps);
-    let verdict = verdict_of(stopped, run.used());
+    let stopped = take_steps(&mut run, tables, file);
+    let used = run.used();
     Done {
         memory: run.close().into_memory(),
-        verdict,
+        verdict: stopped.map(|()| used).map_err(FileFault::Step),
     }
 }
 
-// Starts the draft, and takes the steps.
-fn start_steps<M: Memory<Word = u32>>(
-    draft: Draft<u32, M, AnyOrder>,
-    cards: &mut [CardRecord],
-    code: &mut [CodeRow<u32>],
-    cells: &mut [Cell<u32>],
-    steps: &mut [StepRow<u32>],
-    file: &RunFile<'_>,
-) -> Done<M>
-    requires { draft.count * length (M.meaning draft.memory) ≤ length cells.old }
-    ensures { record { verdict = result.verdict; left = tables (M.meaning result.memory) cards.new code.new cells.new steps.new } ≡ steps_audited file.now.steps.now file.now.header.steps (started (draft_of M.meaning draft cards.old code.old) cells.old steps.old) }
-{
-    match draft.start(cells) {
-        Err(Unstarted { draft, why: _ }) => Done {
-            memory: draft.into_memory(),
-            verdict: Verdict::No(FileFault::Header(HeaderFault::Broken)),
-        },
-        Ok(run) => run_steps(run, cards, code, cells, steps, file),
-    }
-}
-
-// The entries, and then the steps.
-fn draft_records<M: Memory<Word = u32>>(
-    mut draft: Draft<u32, M, AnyOrder>,
-    cards: &mut [CardRecord],
-    code: &mut [CodeRow<u32>],
-    cells: &mut [Cell<u32>],
-    steps: &mut [StepRow<u32>],
-    file: &RunFile<'_>,
-) -> Done<M>
-    requires { draft.count * length (M.meaning draft.memory) ≤ length cells.old }
-    ensures { record { verdict = result.verdict; left = tables (M.meaning result.memory) cards.new code.new cells.new steps.new } ≡ draft_audited draft.order file.now.header file.now.entries.now file.now.steps.now (draft_of M.meaning draft cards.old code.old) cells.old steps.old }
-{
-    match take_entries(&mut draft, cards, code, file, file.header.entries) {
-        Err(stop) => Done {
-            memory: draft.into_memory(),
-            verdict: Verdict::No(FileFault::Entry(stop)),
-        },
-        Ok(()) => start_steps(draft, cards, code, cells, steps, file),
-    }
-}
-
-// All records of the file, over a memory that holds its initial words.
-pub(crate) fn work_records<M: Memory<Word = u32>>(
+// All records of the file, over a memory that holds its initial words: the entries, and then the steps.
+pub(crate) fn work_records<M: Memory<Word = u32> + Drop>(
     memory: M,
-    cards: &mut [CardRecord],
-    code: &mut [CodeRow<u32>],
-    cells: &mut [Cell<u32>],
-    steps: &mut [StepRow<u32>],
-    file: &RunFile<'_>,
+    tables: &mut Tables<'_, u32>,
+    sound: &SoundFile<'_>,
 ) -> Done<M>
-    requires bounds { (1 ≤ file.now.header.cards) × ((file.now.header.cards ≤ 8) × ((1 ≤ length (M.meaning memory)) × (length (M.meaning memory) ≤ 1024))) }
-    requires room { (file.now.header.cards ≤ length cards.old) × (file.now.header.cards * length (M.meaning memory) ≤ length cells.old) }
-    ensures { record { verdict = result.verdict; left = tables (M.meaning result.memory) cards.new code.new cells.new steps.new } ≡ records_audited file.now.header file.now.entries.now file.now.steps.now (tables (M.meaning memory) cards.old code.old cells.old steps.old) }
+    requires size { length (M.meaning memory) ≡ sound.now.file.header.size }
+    requires room { (sound.now.file.header.cards ≤ length tables.old.cards.now) × (sound.now.file.header.cards * sound.now.file.header.size ≤ length tables.old.cells.now) }
+    ensures audited { record { verdict = result.verdict; left = tables_of (M.meaning result.memory) tables.new } ≡ records_audited sound.now.file.header sound.now.file.entries.now sound.now.file.steps.now (tables_of (M.meaning memory) tables.old) }
+    ensures tables { SameTables tables.old tables.new }
 {
-    match Draft::open(memory, file.header.memory_order(), file.header.cards, cards) {
-        Err(
-            Unopened {
-                memory,
-                order: _,
-                why: _,
-            },
-        ) => Done {
-            memory,
-            verdict: Verdict::No(FileFault::Header(HeaderFault::Broken)),
-        },
-        Ok(draft) => draft_records(draft, cards, code, cells, steps, file),
+    let file = sound.file;
+    let order = file.header.memory_order();
+    let Ok(mut draft) = Draft::open(memory, order, file.header.cards, tables.cards) else {
+        unreachable!()
+    };
+    // Kept: `?` would lose the memory, which is handed back.
+    if let Err(stop) = take_entries(&mut draft, tables.cards, tables.code, &file) {
+        return Done {
+            memory: draft.into_memory(),
+            verdict: Err(FileFault::Entry(stop)),
+        };
     }
+    let Ok(run) = draft.start(tables.cells) else {
+        unreachable!()
+    };
+    run_steps(run, tables, &file)
 }

@@ -1,95 +1,70 @@
 // The steps of a run file, taken by a run one after the other.
 ghost use Rattle.std.specs.Prelude.{◌≡◌};
-ghost use Rattle.run.specs.Runs.{world_of};
+ghost use Rattle.run.specs.Runs.{SameTables, world_of};
 ghost use Rattle.audit.specs.Records.{stepped, step_one, step_from};
 ghost use Rattle.audit.specs.Turns.{worked, stop_in};
 
 use crate::fault::{RowFault, Stop};
+use files::records::BadRecord;
 use files::run_file::RunFile;
 use files::step::Step;
 use memory::interface::Memory;
 use run::fault::StepFault;
-use run::rows::{CardRecord, Cell, CodeRow, StepRow};
+use run::rows::Tables;
 use run::states::Running;
 
-// Calls what the step names.
+// Calls what the step names. Kept: a `match`, since which step it is stands in the file, and each takes other numbers.
 fn work_step<M: Memory<Word = u32>>(
-    run: &mut Running<u32, M>,
-    cards: &mut [CardRecord],
-    code: &mut [CodeRow<u32>],
-    cells: &mut [Cell<u32>],
-    steps: &mut [StepRow<u32>],
+    run: &mut Running<M>,
+    tables: &mut Tables<'_, u32>,
     step: Step,
 ) -> Result<(), StepFault>
-    ensures { record { answer = step_from result; after = world_of M.meaning run.new cards.new code.new cells.new steps.new } ≡ stepped (world_of M.meaning run.old cards.old code.old cells.old steps.old) step }
+    ensures world { record { answer = step_from result; after = world_of M.meaning run.new tables.new } ≡ stepped (world_of M.meaning run.old tables.old) step }
+    ensures tables { SameTables tables.old tables.new }
 {
     match step {
-        Step::Perform { card, position } => match run.perform(
-            cards,
-            code,
-            cells,
-            steps,
-            card as u32,
-            position,
-        ) {
-            Ok(_) => Ok(()),
-            Err(why) => Err(why),
-        },
+        Step::Perform { card, position } => run
+            .perform(tables, u32::from(card), position)
+            .map(|_| ()),
         Step::PerformRecorded {
             card,
             position,
             word,
-        } => match run.perform_recorded(cards, code, cells, steps, card as u32, position, word) {
-            Ok(_) => Ok(()),
-            Err(why) => Err(why),
-        },
-        Step::Cache { card, address } => run.cache(cards, code, cells, steps, card as u32, address),
-        Step::WriteBack { card, address } => run.write_back(
-            cards,
-            code,
-            cells,
-            steps,
-            card as u32,
-            address,
-        ),
-        Step::Purge { card, address } => run.purge(cards, code, cells, steps, card as u32, address),
+        } => run
+            .perform_recorded(tables, u32::from(card), position, word)
+            .map(|_| ()),
+        Step::Cache { card, address } => run.cache(tables, u32::from(card), address),
+        Step::WriteBack { card, address } => run.write_back(tables, u32::from(card), address),
+        Step::Purge { card, address } => run.purge(tables, u32::from(card), address),
     }
 }
 
 // Takes the n-th step of the file.
 fn take_step<M: Memory<Word = u32>>(
-    run: &mut Running<u32, M>,
-    cards: &mut [CardRecord],
-    code: &mut [CodeRow<u32>],
-    cells: &mut [Cell<u32>],
-    steps: &mut [StepRow<u32>],
+    run: &mut Running<M>,
+    tables: &mut Tables<'_, u32>,
     file: &RunFile<'_>,
-    n: usize,
+    n: u32,
 ) -> Result<(), RowFault>
-    ensures { record { answer = result; after = world_of M.meaning run.new cards.new code.new cells.new steps.new } ≡ step_one file.now.steps.now n (world_of M.meaning run.old cards.old code.old cells.old steps.old) }
+    ensures taken { record { answer = result; after = world_of M.meaning run.new tables.new } ≡ step_one file.now.steps.now n (world_of M.meaning run.old tables.old) }
+    ensures tables { SameTables tables.old tables.new }
 {
-    let step = file.step(n)?;
-    work_step(run, cards, code, cells, steps, step)?;
-    Ok(())
+    let step = file.step(n as usize)?;
+    Ok(work_step(run, tables, step)?)
 }
 
 // Takes the steps in turn, up to the first that is refused.
 pub(crate) fn take_steps<M: Memory<Word = u32>>(
-    run: &mut Running<u32, M>,
-    cards: &mut [CardRecord],
-    code: &mut [CodeRow<u32>],
-    cells: &mut [Cell<u32>],
-    steps: &mut [StepRow<u32>],
+    run: &mut Running<M>,
+    tables: &mut Tables<'_, u32>,
     file: &RunFile<'_>,
-    count: u32,
 ) -> Result<(), Stop>
-    ensures { record { after = world_of M.meaning run.new cards.new code.new cells.new steps.new; stopped = stop_in result } ≡ worked (step_one file.now.steps.now) count 0 (world_of M.meaning run.old cards.old code.old cells.old steps.old) }
+    ensures worked { record { after = world_of M.meaning run.new tables.new; stopped = stop_in result } ≡ worked (step_one file.now.steps.now) file.now.header.steps 0 (world_of M.meaning run.old tables.old) }
+    ensures tables { SameTables tables.old tables.new }
 {
-    for n in 0..count {
-        match take_step(run, cards, code, cells, steps, file, n as usize) {
-            Ok(()) => {}
-            Err(fault) => return Err(Stop { place: n, fault }),
-        }
+    // Kept: a loop of one line, for the reason beside that of take_entries.
+    for n in 0..file.header.steps {
+        take_step(run, tables, file, n).map_err(|fault| BadRecord { place: n, fault })?;
     }
     Ok(())
 }

@@ -1,16 +1,11 @@
 // What an audit comes to.
 use crate::fault::FileFault;
 
-#[derive(Clone, Copy)]
-pub enum Verdict {
-    // Every record is accepted; there are so many steps.
-    Ok { steps: u32 },
-    // The first record that is not accepted, or the header.
-    No(FileFault),
-}
+// All records are accepted, and there are so many steps; or the first refusal.
+pub type Verdict = Result<u32, FileFault>;
 
 // Why an audit is refused.
-#[derive(Clone, Copy)]
+#[derive(Clone, Copy, PartialEq, Eq, Debug)]
 pub enum AuditFault {
     TooShort,
 }

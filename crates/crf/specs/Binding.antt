@@ -35,26 +35,26 @@ second_w Ww = true
 abbrev pub binding : {W : Type 0} → Instruction W → Instruction W → Bool
 binding (Loadl a) (Loadl b) = false
 binding (Loadl a) (Storel b w) = a == b
-binding (Loadl a) (Fence k l1 h1 l2 h2) = first_r k && within l1 h1 a
+binding (Loadl a) (Fence k f s) = first_r k && within f.low f.high a
 binding (Loadl a) (Commit b) = false
 binding (Loadl a) (Reconcile b) = false
 binding (Storel a v) (Loadl b) = a == b
 binding (Storel a v) (Storel b w) = a == b
-binding (Storel a v) (Fence k l1 h1 l2 h2) = false
+binding (Storel a v) (Fence k f s) = false
 binding (Storel a v) (Commit b) = a == b
 binding (Storel a v) (Reconcile b) = false
-binding (Fence k l1 h1 l2 h2) (Loadl b) = false
-binding (Fence k l1 h1 l2 h2) (Storel b w) = second_w k && within l2 h2 b
-binding (Fence k l1 h1 l2 h2) (Fence k' m1 n1 m2 n2) = false
-binding (Fence k l1 h1 l2 h2) (Commit b) = false
-binding (Fence k l1 h1 l2 h2) (Reconcile b) = second_r k && within l2 h2 b
+binding (Fence k f s) (Loadl b) = false
+binding (Fence k f s) (Storel b w) = second_w k && within s.low s.high b
+binding (Fence k f s) (Fence k' f' s') = false
+binding (Fence k f s) (Commit b) = false
+binding (Fence k f s) (Reconcile b) = second_r k && within s.low s.high b
 binding (Commit a) (Loadl b) = false
 binding (Commit a) (Storel b w) = false
-binding (Commit a) (Fence k l1 h1 l2 h2) = first_w k && within l1 h1 a
+binding (Commit a) (Fence k f s) = first_w k && within f.low f.high a
 binding (Commit a) (Commit b) = false
 binding (Commit a) (Reconcile b) = false
 binding (Reconcile a) (Loadl b) = a == b
 binding (Reconcile a) (Storel b w) = false
-binding (Reconcile a) (Fence k l1 h1 l2 h2) = false
+binding (Reconcile a) (Fence k f s) = false
 binding (Reconcile a) (Commit b) = false
 binding (Reconcile a) (Reconcile b) = false

@@ -22,7 +22,7 @@ row_of f = row f.kind f.first.low f.first.high f.second.low f.second.high
 
 -- a fence as an instruction
 abbrev pub fence_row : {W : Type 0} → Row → Instruction W
-fence_row r = instruction.Fence r.kind r.first_low r.first_high r.second_low r.second_high
+fence_row r = instruction.Fence r.kind (record { low = r.first_low; high = r.first_high }) (record { low = r.second_low; high = r.second_high })
 
 -- a fence of kind k between all addresses and a
 abbrev pub star_to : FenceKind → ℕ → Row

@@ -1,3 +1,4 @@
 pub mod Spans
 pub mod Fences
 pub mod Binding
+pub mod Addresses

@@ -1,8 +1,9 @@
 -- Spans of addresses.
 use Rattle.std.specs.Prelude.{◌≡◌, ℕ, Bool, true, false, cond, ◌&&◌, Ok, Err, Result, nat_le}
 use Rattle.crf.specs.declared.span.Span.{Span}
-use Rattle.crf.specs.declared.span.making.SpanFault.{SpanFault}
-use Rattle.crf.specs.declared.span.making.SpanFault.TheVariants.{Ends as EndsFault}
+use Rattle.crf.specs.declared.span.SpanEnds.{SpanEnds}
+use Rattle.crf.specs.declared.span.SpanFault.{SpanFault}
+use Rattle.crf.specs.declared.span.SpanFault.TheVariants.{Ends as EndsFault}
 
 -- the number of each refusal
 abbrev pub span_fault_number : SpanFault → ℕ
@@ -34,3 +35,11 @@ between low high a = nat_le low a && nat_le a high
 -- the span that a row's ends are read as holds the address
 abbrev pub within : ℕ → ℕ → ℕ → Bool
 within low high a = between (low_of low high) (high_of low high) a
+
+-- a span's ends, as a row holds them
+abbrev pub ends_of : Span → SpanEnds
+ends_of s = record { low = s.low; high = s.high }
+
+-- the span of all addresses
+abbrev pub All : Span → Type 0
+All s = (s.low ≡ 0) × (s.high ≡ 1023)

@@ -3,58 +3,49 @@ ghost use Rattle.std.specs.Prelude.{◌≡◌};
 ghost use Rattle.crf.specs.Binding.{binding};
 
 use crate::instruction::{FenceKind, Instruction};
-use crate::span::Span;
 
 pub fn binds<W>(earlier: &Instruction<W>, later: &Instruction<W>) -> bool
     ensures { result ≡ binding earlier.now later.now }
 {
     match (earlier, later) {
-        (Instruction::Loadl { address: a }, Instruction::Storel { address: b, .. }) if *a == *b =>
-            true,
+        (Instruction::Loadl { address: a }, Instruction::Storel { address: b, .. })
+        | (Instruction::Storel { address: a, .. }, Instruction::Loadl { address: b })
+        | (Instruction::Storel { address: a, .. }, Instruction::Storel { address: b, .. })
+        | (Instruction::Storel { address: a, .. }, Instruction::Commit { address: b })
+        | (Instruction::Reconcile { address: a }, Instruction::Loadl { address: b })
+            if a == b => true,
         (
-            Instruction::Loadl { address: a },
+            Instruction::Loadl { address },
             Instruction::Fence {
                 kind: FenceKind::Rr | FenceKind::Rw,
-                first_low,
-                first_high,
+                first,
                 ..
             },
-        ) if Span::read(*first_low, *first_high).holds(*a) => true,
-        (Instruction::Storel { address: a, .. }, Instruction::Loadl { address: b }) if *a == *b =>
-            true,
-        (Instruction::Storel { address: a, .. }, Instruction::Storel { address: b, .. })
-            if *a == *b => true,
-        (Instruction::Storel { address: a, .. }, Instruction::Commit { address: b }) if *a == *b =>
-            true,
-        (
-            Instruction::Commit { address: a },
+        )
+        | (
+            Instruction::Commit { address },
             Instruction::Fence {
                 kind: FenceKind::Wr | FenceKind::Ww,
-                first_low,
-                first_high,
+                first,
                 ..
             },
-        ) if Span::read(*first_low, *first_high).holds(*a) => true,
+        ) if first.holds(*address) => true,
         (
             Instruction::Fence {
                 kind: FenceKind::Rr | FenceKind::Wr,
-                second_low,
-                second_high,
+                second,
                 ..
             },
-            Instruction::Reconcile { address: b },
-        ) if Span::read(*second_low, *second_high).holds(*b) => true,
-        (
+            Instruction::Reconcile { address },
+        )
+        | (
             Instruction::Fence {
                 kind: FenceKind::Rw | FenceKind::Ww,
-                second_low,
-                second_high,
+                second,
                 ..
             },
-            Instruction::Storel { address: b, .. },
-        ) if Span::read(*second_low, *second_high).holds(*b) => true,
-        (Instruction::Reconcile { address: a }, Instruction::Loadl { address: b }) if *a == *b =>
-            true,
+            Instruction::Storel { address, .. },
+        ) if second.holds(*address) => true,
         _ => false,
     }
 }

@@ -5,7 +5,7 @@ ghost use Rattle.crf.specs.Fences.{row, row_of, fence_row, star_to, from_star, s
 use crate::instruction::{FenceKind, Instruction};
 use crate::span::Span;
 
-#[derive(Clone, Copy)]
+#[derive(Clone, Copy, Default)]
 pub struct Fence {
     pub kind: FenceKind,
     pub first: Span,
@@ -51,17 +51,17 @@ impl Fence {
     {
         Fence::between(kind, Span::ALL, Span::ALL)
     }
+}
 
-    // The fence as a table row.
-    pub fn instruction<W>(self) -> Instruction<W>
-        ensures { result ≡ fence_row (row_of self) }
-    {
+// The fence as a table row.
+impl<W> From<Fence> for Instruction<W> {
+    ghost from_gives = { λ fence instruction. instruction ≡ fence_row (row_of fence) };
+
+    fn from(fence: Fence) -> Instruction<W> {
         Instruction::Fence {
-            kind: self.kind,
-            first_low: self.first.low(),
-            first_high: self.first.high(),
-            second_low: self.second.low(),
-            second_high: self.second.high(),
+            kind: fence.kind,
+            first: fence.first.into(),
+            second: fence.second.into(),
         }
     }
 }

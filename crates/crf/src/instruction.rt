@@ -1,8 +1,13 @@
 // The instructions, as plain table rows.
+ghost use Rattle.std.specs.Prelude.{◌≡◌};
+ghost use Rattle.crf.specs.Addresses.{address_named};
+
+use crate::span::SpanEnds;
 
 // The first letter names the accesses before the fence, the second those after it: r loads, w stores.
-#[derive(Clone, Copy)]
+#[derive(Clone, Copy, Default)]
 pub enum FenceKind {
+    #[default]
     Rr,
     Rw,
     Wr,
@@ -27,9 +32,22 @@ pub enum Instruction<W> {
     },
     Fence {
         kind: FenceKind,
-        first_low: u32,
-        first_high: u32,
-        second_low: u32,
-        second_high: u32,
+        first: SpanEnds,
+        second: SpanEnds,
     },
+}
+
+impl<W: Copy> Instruction<W> {
+    // The address that the instruction names; a fence names none.
+    pub fn address(&self) -> Option<u32>
+        ensures { result ≡ address_named self.now }
+    {
+        match *self {
+            Instruction::Loadl { address }
+            | Instruction::Storel { address, .. }
+            | Instruction::Commit { address }
+            | Instruction::Reconcile { address } => Some(address),
+            Instruction::Fence { .. } => None,
+        }
+    }
 }

@@ -1,7 +1,6 @@
 // Reads a day file on standard input and prints its report.
 #![tactic(auto)]
 
-use anyhow::anyhow;
 use report::whole::{REPORT_BYTES, day_text};
 use std::io::{Read, Write};
 
@@ -11,10 +10,8 @@ const INPUT_BYTES: u64 = 65537;
 fn main(rt: HostRuntime) -> anyhow::Result<()> {
     let mut input = Vec::new(rt.alloc());
     rt.stdin().take(INPUT_BYTES).read_to_end(&mut input)?;
-    let mut table = [0u8; REPORT_BYTES];
-    let Ok(len) = day_text(input.as_slice(), &mut table) else {
-        return Err(anyhow!("the report does not fit"));
-    };
-    rt.stdout().write_all(&table[0..len.min(REPORT_BYTES)])?;
+    let mut table = [0; REPORT_BYTES];
+    let len = day_text(&input, &mut table)?;
+    rt.stdout().write_all(&table[..len])?;
     Ok(())
 }

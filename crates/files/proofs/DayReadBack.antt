@@ -1,14 +1,16 @@
 -- A day file that was written is read part for part.
 use Rattle.std.proofs.Common.{◌≡◌, ℕ, zero, suc, ◌+◌, ◌*◌, ◌<◌, ◌≤◌, true, ◌&&◌, eqb, ltb, leb, List, [], ◌∷◌, ◌++◌, length, get_or, take, drop, Some, None, sym, refl, ap, ◌∙◌, append_assoc, add-zero, arith, length-append, take-append-drop}
+use Rattle.std.proofs.lemmas.Grind.{flat_map-append}
 use Rattle.std.proofs.lemmas.List.{take_all, drop_more, get_or_default}
 use Rattle.std.proofs.lemmas.Bool.{and_parts, and_from, leb-true, le-leb, le-ltb, lt-ltb, eq-eqb, cond-true, cond-false}
 use Rattle.std.specs.List.{flat_map, AllByRecursion}
-use Rattle.files.specs.Bytes.{number_at, part}
+use Rattle.memory.specs.Bytes.{number_at}
+use Rattle.files.specs.Bytes.{part}
 use Rattle.files.specs.Day.{run_count, offset_of, length_of, runs_start, day_fits, count_fits, has_runs_table, gapless, has_run, run_part}
 use Rattle.files.specs.DayWriting.{run_bytes, header_end, day_length, run_places, day_bytes, day_writable, DayReadsBack}
 use Rattle.files.specs.Encoding.{number_bytes, Number}
 use Rattle.files.proofs.Days.{places_length}
-use Rattle.files.proofs.Putting.{joined_append, joined_next, number_widths}
+use Rattle.files.proofs.Putting.{joined_next, number_widths}
 use Rattle.files.proofs.ReadBack.{numbers_of, part-between}
 
 -- the numbers of the header
@@ -19,7 +21,7 @@ bytes_shape : (runs : List (List ℕ)) → day_bytes runs ≡ flat_map number_by
 bytes_shape runs =
     let places = run_places (header_end runs) runs in
     sym (append_assoc (flat_map number_bytes (length runs ∷ [])) (flat_map number_bytes places) (run_bytes runs))
-    ∙ ap (λ t. t ++ run_bytes runs) (sym (joined_append number_bytes (length runs ∷ []) places))
+    ∙ ap (λ t. t ++ run_bytes runs) (sym (flat_map-append number_bytes (length runs ∷ []) places))
 
 header_width : (runs : List (List ℕ)) → length (flat_map number_bytes (day_numbers runs)) ≡ header_end runs
 header_width runs =
@@ -105,7 +107,7 @@ gapless_back runs bs (suc k) n at t s e =
 -- the runs before run n, that run, and those behind it
 runs_split : (runs : List (List ℕ)) (n : ℕ) → n < length runs → run_bytes runs ≡ run_bytes (take n runs) ++ (get_or runs n [] ++ run_bytes (drop (n + 1) runs))
 runs_split runs n h =
-    ap run_bytes (sym (take-append-drop n runs)) ∙ joined_append (λ t. t) (take n runs) (drop n runs)
+    ap run_bytes (sym (take-append-drop n runs)) ∙ flat_map-append (λ t. t) (take n runs) (drop n runs)
     ∙ ap (λ rs. run_bytes (take n runs) ++ run_bytes rs) (drop_more runs n [] h)
 
 run_back : (runs : List (List ℕ)) (bs : List ℕ) (n : ℕ) → bs ≡ flat_map number_bytes (day_numbers runs) ++ run_bytes runs → Told runs bs → n < length runs → run_part bs n ≡ get_or runs n []

@@ -3,13 +3,14 @@ use Rattle.std.proofs.Common.{◌≡◌, ℕ, zero, suc, ◌+◌, ◌*◌, ◌�
 use Rattle.std.proofs.lemmas.List.{drop_all, drop-drop}
 use Rattle.std.proofs.lemmas.Bool.{and_parts, and_from, eqb-true, le-leb, le-ltb, cond-false}
 use Rattle.std.specs.List.{flat_map, AllByRecursion}
-use Rattle.files.specs.Bytes.{number_at, part}
+use Rattle.memory.specs.Bytes.{number_at}
+use Rattle.files.specs.Bytes.{part}
 use Rattle.files.specs.Day.{run_count, runs_start, offset_of, length_of, gapless, run_part}
 use Rattle.files.specs.DayWriting.{run_bytes, day_length, run_places, runs_from, runs_of, DayWritesBack}
 use Rattle.files.specs.Encoding.{number_bytes, Byte}
 use Rattle.files.proofs.Gapless.{begins_inside, sound}
 use Rattle.files.proofs.Laying.{length_part}
-use Rattle.files.proofs.Recording.{number_back}
+use Rattle.files.specs.Recording.{number_back}
 use Rattle.files.proofs.WrittenBack.{parts_join}
 
 runs_count : (bs : List ℕ) (k n : ℕ) → length (runs_from bs k n) ≡ k

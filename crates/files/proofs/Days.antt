@@ -1,11 +1,12 @@
 -- The runs of a day, one behind the other, and their places.
 use Rattle.std.proofs.Common.{◌≡◌, ℕ, ◌+◌, ◌*◌, ◌<◌, ◌≤◌, List, [], ◌∷◌, ◌++◌, map, length, get_or, take, sym, refl, ap, ◌∙◌, add-zero, arith, length-append, Bor}
 use lib.ListN.{length-map}
+use Rattle.std.proofs.lemmas.List.Folds.{flat_map-map, length-flat_map-take}
 use Rattle.std.proofs.lemmas.List.{take_more, get_or-map, length-take-le}
 use Rattle.std.specs.List.{flat_map}
 use Rattle.files.specs.DayWriting.{run_bytes, run_places}
 use Rattle.files.specs.Encoding.{number_bytes}
-use Rattle.files.proofs.Putting.{number_widths, joined_next, joined_room}
+use Rattle.files.proofs.Putting.{number_widths, joined_next}
 
 -- a run that is read past the last one
 abbrev pub no_run : Bor (List ℕ)
@@ -18,8 +19,7 @@ pub run_here : (xs : List (Bor (List ℕ))) (n : ℕ) → n < length xs → (get
 run_here xs n h = sym (get_or-map (λ x. x.now) xs n no_run (get_or xs n no_run).now h)
 
 pub runs_joined : (xs : List (Bor (List ℕ))) → flat_map (λ x. x.now) xs ≡ run_bytes (map (λ x. x.now) xs)
-runs_joined [] = refl
-runs_joined (x ∷ xs) = ap (λ t. x.now ++ t) (runs_joined xs)
+runs_joined xs = sym (flat_map-map (λ r. r) (λ x. x.now) xs)
 
 -- what run n adds, and the room for it
 pub record Next (xs : List (Bor (List ℕ))) (n : ℕ) : Type 0 where
@@ -32,7 +32,7 @@ next_run xs n h =
     let r = (get_or xs n no_run).now in
     record {
       more = ap length (joined_next (λ t. t) (map (λ x. x.now) xs) n r (omega arith) (run_here xs n h)) ∙ length-append (run_bytes (take n (map (λ x. x.now) xs))) r;
-      room = joined_room (λ t. t) (map (λ x. x.now) xs) n r (omega arith) (run_here xs n h);
+      room = rw (run_here xs n h) (length-flat_map-take (λ t. t) (map (λ x. x.now) xs) n r (omega arith));
     }
 
 places_append : (at : ℕ) (xs ys : List (List ℕ)) → run_places at (xs ++ ys) ≡ run_places at xs ++ run_places (at + length (run_bytes xs)) ys

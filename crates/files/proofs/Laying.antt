@@ -1,8 +1,8 @@
 -- What the tests of a sound run file say.
-use Rattle.std.proofs.Common.{◌≡◌, ℕ, ◌+◌, ◌-◌, ◌*◌, ◌≤◌, true, ◌&&◌, eqb, leb, List, length, take, drop, arith, length-drop, length-take}
+use Rattle.std.proofs.Common.{◌≡◌, ℕ, ◌+◌, ◌-◌, ◌*◌, ◌≤◌, true, ◌&&◌, eqb, leb, List, length, take, drop, sym, refl, ap, ◌∙◌, subst, arith, length-drop, length-take}
 use Rattle.std.proofs.lemmas.Bool.{and_parts, eqb-true, leb-true}
 use Rattle.files.specs.Bytes.{part}
-use Rattle.files.specs.Header.{fields_of, entries_start, steps_start, file_end, cards_fit, size_fits, order_known, entries_fit, in_bounds, words_placed, entries_placed, steps_placed, laid_out}
+use Rattle.files.specs.Header.{fields_of, header_in, header_of, entries_start, steps_start, file_end, cards_fit, size_fits, order_known, entries_fit, in_bounds, words_placed, entries_placed, steps_placed, laid_out}
 use Rattle.files.specs.Run.{has_header, sound_run, words_section, entries_section, steps_section}
 use Rattle.files.specs.declared.header.Fields.{Fields}
 
@@ -82,3 +82,33 @@ sized bs e =
       entries = length_part bs (entries_start h) (12 * h.entries) (omega (arith, p.end));
       steps = length_part bs (steps_start h) (12 * h.steps) (omega (arith, p.end));
     }
+
+-- what opening such a file finds
+pub record Opened (bs : List ℕ) (f : Fields) : Type 0 where
+  pub bounds : Bounded f
+  pub header : header_in f ≡ header_of bs
+  pub words : take (f.entries_at - 32) (drop 32 bs) ≡ words_section bs
+  pub entries : take (f.steps_at - f.entries_at) (drop f.entries_at bs) ≡ entries_section bs
+  pub steps : take (length bs - f.steps_at) (drop f.steps_at bs) ≡ steps_section bs
+  pub words_whole : length (take (f.entries_at - 32) (drop 32 bs)) ≡ 4 * f.size
+  pub entries_whole : length (take (f.steps_at - f.entries_at) (drop f.entries_at bs)) ≡ 12 * f.entries
+  pub steps_whole : length (take (length bs - f.steps_at) (drop f.steps_at bs)) ≡ 12 * f.steps
+
+pub opened : (bs : List ℕ) (f : Fields) → sound_run bs ≡ true → f ≡ fields_of bs → Opened bs f
+opened bs f e is =
+    let p = placed bs e in
+    let z = sized bs e in
+    let h = fields_of bs in
+    let words = by_ends bs 32 h.entries_at 32 (4 * h.size) refl p.entries in
+    let entries = by_ends bs h.entries_at h.steps_at (entries_start h) (12 * h.entries) p.entries p.steps in
+    let steps = by_ends bs h.steps_at (length bs) (steps_start h) (12 * h.steps) p.steps (sym p.end) in
+    subst (λ (f : Fields). Opened bs f) (sym is) (record {
+      bounds = bounded bs e;
+      header = refl;
+      words = words;
+      entries = entries;
+      steps = steps;
+      words_whole = ap length words ∙ z.words;
+      entries_whole = ap length entries ∙ z.entries;
+      steps_whole = ap length steps ∙ z.steps;
+    })

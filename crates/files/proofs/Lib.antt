@@ -6,6 +6,5 @@ pub mod Laying
 pub mod Numbers
 pub mod Putting
 pub mod ReadBack
-pub mod Recording
 pub mod Turns
 pub mod WrittenBack

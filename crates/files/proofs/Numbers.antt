@@ -1,30 +1,40 @@
 -- Numbers in a part of a file.
-use Rattle.std.proofs.Common.{◌≡◌, ℕ, zero, suc, ◌+◌, ◌-◌, ◌*◌, ◌/◌, ◌<◌, List, [], ◌∷◌, length, get_or, take, drop, sym, refl, ap, ◌∙◌, add_assoc, arith}
-use Rattle.std.proofs.lemmas.List.{get_or-drop, take_rest}
-use Rattle.memory.specs.Bytes.{four_bytes, words_of}
-use Rattle.files.specs.Bytes.{number_at}
-
--- a number behind the first k bytes
-pub number_after : (bs : List ℕ) (k i : ℕ) → number_at (drop k bs) i ≡ number_at bs (k + i)
-unfolding number_at
-number_after bs k i = simp (get_or-drop, add_assoc)
+use Rattle.std.proofs.Common.{◌≡◌, ℕ, suc, ◌+◌, ◌-◌, ◌<◌, ◌≤◌, List, [], ◌∷◌, length, get_or, take, drop, sym, refl, ap, ◌∙◌, arith, length-drop}
+use Rattle.std.proofs.lemmas.List.{take_rest, drop_more}
+use Rattle.memory.specs.Bytes.{number_at, words_of}
+use Rattle.memory.proofs.Bytes.{length-words_of}
+use Rattle.files.specs.Recording.{number_after}
 
 -- the same in `&bytes[k..]`
 pub number_rest : (bs : List ℕ) (k i : ℕ) → number_at (take (length bs - k) (drop k bs)) i ≡ number_at bs (k + i)
 number_rest bs k i = ap (λ xs. number_at xs i) (take_rest bs k) ∙ number_after bs k i
 
-first_number : (a b c d : ℕ) (rest : List ℕ) → number_at (a ∷ b ∷ c ∷ d ∷ rest) 0 ≡ four_bytes a b c d
-unfolding number_at
-first_number a b c d rest = refl
+-- the words of some bytes are the first number, and those behind its four bytes
+word_first : (bs : List ℕ) → 4 ≤ length bs → words_of bs ≡ number_at bs 0 ∷ words_of (drop 4 bs)
+unfolding words_of number_at
+word_first [] h = absurd (omega arith)
+word_first (a ∷ []) h = absurd (omega arith)
+word_first (a ∷ b ∷ []) h = absurd (omega arith)
+word_first (a ∷ b ∷ c ∷ []) h = absurd (omega arith)
+word_first (a ∷ b ∷ c ∷ d ∷ rest) h = refl
 
--- number i starts at byte 4 * i
-pub numbers_read : (bs : List ℕ) (i e : ℕ) → i < length bs / 4 → number_at bs (4 * i) ≡ get_or (words_of bs) i e
-unfolding words_of
-numbers_read [] i e h = absurd (omega arith)
-numbers_read (a ∷ []) i e h = absurd (omega arith)
-numbers_read (a ∷ b ∷ []) i e h = absurd (omega arith)
-numbers_read (a ∷ b ∷ c ∷ []) i e h = absurd (omega arith)
-numbers_read (a ∷ b ∷ c ∷ d ∷ rest) zero e h = first_number a b c d rest
-numbers_read (a ∷ b ∷ c ∷ d ∷ rest) (suc i) e h =
-    let s : 4 * suc i ≡ 4 + 4 * i = omega arith in
-    rw s (sym (number_after (a ∷ b ∷ c ∷ d ∷ rest) 4 (4 * i)) ∙ numbers_read rest i e (omega arith))
+-- one word more of those that stand behind the first i
+pub record WordHere (bs rest : List ℕ) (i : ℕ) : Type 0 where
+  pub there : i < length (words_of bs)
+  pub word : number_at rest 0 ≡ get_or (words_of bs) i (number_at rest 0)
+  pub behind : words_of (drop 4 rest) ≡ drop (i + 1) (words_of bs)
+
+pub word_here : (bs rest : List ℕ) (i : ℕ) → 4 ≤ length rest → words_of rest ≡ drop i (words_of bs) → WordHere bs rest i
+word_here bs rest i h e =
+    let f = word_first rest h in
+    let n : suc (length (words_of (drop 4 rest))) ≡ length (words_of bs) - i = sym (ap length f) ∙ ap length e ∙ length-drop i (words_of bs) in
+    let there : i < length (words_of bs) = omega arith in
+    let m = sym f ∙ e ∙ drop_more (words_of bs) i (number_at rest 0) there in
+    record { there = there; word = cc; behind = cc }
+
+-- fewer than four bytes have no word
+pub words_end : (bs rest : List ℕ) (i : ℕ) → length rest < 4 → words_of rest ≡ drop i (words_of bs) → length (words_of bs) ≤ i
+words_end bs rest i h e =
+    let l = ap length e ∙ length-drop i (words_of bs) in
+    let n = length-words_of rest in
+    omega arith

@@ -1,25 +1,19 @@
 -- Bytes put into a table, one part behind the other.
-use Rattle.std.proofs.Common.{◌≡◌, ℕ, ◌+◌, ◌*◌, ◌<◌, ◌≤◌, Bool, true, List, [], ◌∷◌, ◌++◌, length, get_or, take, drop, Ok, Option, sym, refl, ap, ◌∙◌, append_assoc, add-zero, add_comm, mul-zero, zero-add, mul-suc, arith, length-append, length-drop, take-append-drop, length-take}
+use Rattle.std.proofs.Common.{◌≡◌, ℕ, ◌+◌, ◌*◌, ◌<◌, ◌≤◌, Bool, true, List, [], ◌∷◌, ◌++◌, length, get_or, take, drop, Ok, Option, sym, ap, ◌∙◌, append_assoc, add-zero, add_comm, mul-zero, zero-add, mul-suc, arith, length-append, length-drop, take-append-drop, length-take}
 use lib.Seq.{drop-append-add}
+use Rattle.std.proofs.lemmas.Grind.{flat_map-append}
 use Rattle.std.proofs.lemmas.List.{take_at, take_all, take_more, drop-drop, append-nil}
 use Rattle.std.proofs.lemmas.Bool.{le-leb}
 use Rattle.std.specs.List.{flat_map}
 use Rattle.memory.specs.Tables.{laid_over}
 use Rattle.orders.specs.declared.chosen.AnyOrder.{AnyOrder}
-use Rattle.orders.specs.declared.entries.Entry.{Entry}
-use Rattle.orders.specs.declared.entries.Entry.TheVariants.{Load, Store, Barrier}
-use Rattle.files.specs.Encoding.{number_bytes, entry_bytes, encode_entry, encode_step}
+use Rattle.files.specs.Encoding.{number_bytes, encode_entry, encode_step}
 use Rattle.files.specs.Header.{file_end}
 use Rattle.files.specs.Writing.{written_at, fields_for, field_numbers, written_if}
 use Rattle.files.specs.declared.header.Fields.{Fields}
 use Rattle.files.specs.declared.records.CardEntry.{CardEntry}
 use Rattle.files.specs.declared.step.Step.{Step}
-use Rattle.files.specs.declared.step.Step.TheVariants.{Perform, PerformRecorded, Cache, WriteBack, Purge}
-use Rattle.files.proofs.Recording.{number_length}
-
-pub joined_append : {X : Type 0} (f : X → List ℕ) (xs ys : List X) → flat_map f (xs ++ ys) ≡ flat_map f xs ++ flat_map f ys
-joined_append f [] ys = refl
-joined_append f (x ∷ xs) ys = ap (λ t. f x ++ t) (joined_append f xs ys) ∙ sym (append_assoc (f x) (flat_map f xs) (flat_map f ys))
+use Rattle.files.specs.Recording.{number_length, entry_width, step_width}
 
 pub written_none : (old : List ℕ) (at : ℕ) → old ≡ written_at old at []
 written_none old at = sym (rw add-zero (take-append-drop at old))
@@ -73,15 +67,8 @@ four_parts_put old a b c d o1 o2 o3 o4 i j k h e ie f je g ke w =
 -- one row more
 pub joined_next : {X : Type 0} (f : X → List ℕ) (xs : List X) (n : ℕ) (x : X) → n < length xs → x ≡ get_or xs n x → flat_map f (take (n + 1) xs) ≡ flat_map f (take n xs) ++ f x
 joined_next f xs n x h e =
-    ap (flat_map f) (take_more xs n x h) ∙ joined_append f (take n xs) (get_or xs n x ∷ [])
+    ap (flat_map f) (take_more xs n x h) ∙ flat_map-append f (take n xs) (get_or xs n x ∷ [])
     ∙ ap (λ t. flat_map f (take n xs) ++ t) (append-nil (f (get_or xs n x)) ∙ ap f (sym e))
-
--- and room for it
-pub joined_room : {X : Type 0} (f : X → List ℕ) (xs : List X) (n : ℕ) (x : X) → n < length xs → x ≡ get_or xs n x → length (flat_map f (take n xs)) + length (f x) ≤ length (flat_map f xs)
-joined_room f xs n x h e =
-    let p = ap length (joined_next f xs n x h e) ∙ length-append (flat_map f (take n xs)) (f x) in
-    let s = ap (λ ys. length (flat_map f ys)) (sym (take-append-drop (n + 1) xs)) ∙ ap length (joined_append f (take (n + 1) xs) (drop (n + 1) xs)) ∙ length-append (flat_map f (take (n + 1) xs)) (flat_map f (drop (n + 1) xs)) in
-    omega arith
 
 -- rows of so many bytes each
 pub joined_length : {X : Type 0} (f : X → List ℕ) (w : ℕ) (xs : List X) → ((x : X) → length (f x) ≡ w) → length (flat_map f xs) ≡ w * length xs
@@ -93,22 +80,8 @@ joined_length f w (x ∷ xs) h = length-append (f x) (flat_map f xs) ∙ ap (λ 
 pub number_widths : (ns : List ℕ) → length (flat_map number_bytes ns) ≡ 4 * length ns
 number_widths ns = joined_length number_bytes 4 ns number_length
 
-pub entry_width : (c : ℕ) (e : Entry ℕ) → length (entry_bytes c e) ≡ 12
-unfolding number_bytes
-entry_width c (Load m a) = refl
-entry_width c (Store m a w) = refl
-entry_width c (Barrier mask) = refl
-
 pub entry_widths : (es : List CardEntry) → length (flat_map encode_entry es) ≡ 12 * length es
-entry_widths es = joined_length encode_entry 12 es (λ e. entry_width e.card e.entry)
-
-pub step_width : (s : Step) → length (encode_step s) ≡ 12
-unfolding number_bytes
-step_width (Perform c p) = refl
-step_width (PerformRecorded c p w) = refl
-step_width (Cache c a) = refl
-step_width (WriteBack c a) = refl
-step_width (Purge c a) = refl
+entry_widths es = joined_length encode_entry 12 es entry_width
 
 pub step_widths : (ss : List Step) → length (flat_map encode_step ss) ≡ 12 * length ss
 step_widths ss = joined_length encode_step 12 ss step_width
@@ -130,3 +103,16 @@ pub writing_ok : (legal : Bool) (end len n : ℕ) → legal ≡ true → end ≤
 writing_ok legal end len n w l e =
     let r = le-leb end len l in
     rw (w, r, e)
+
+-- the parts of a file that is written, and where it ends
+pub record Widths (end numbers words entries steps : ℕ) : Type 0 where
+  pub header : numbers ≡ 32
+  pub whole : 32 + words + entries + steps ≡ end
+
+pub written_widths : (order : Option AnyOrder) (cards : ℕ) (words : List ℕ) (entries : List CardEntry) (steps : List Step) (f : Fields) (numbers : List ℕ)
+    → f ≡ fields_for order cards (length words) (length entries) (length steps) → numbers ≡ field_numbers f
+    → Widths (file_end f) (length (flat_map number_bytes numbers)) (length (flat_map number_bytes words)) (length (flat_map encode_entry entries)) (length (flat_map encode_step steps))
+written_widths order cards words entries steps f numbers e n =
+    let h : length (flat_map number_bytes numbers) ≡ 32 = ap (λ xs. length (flat_map number_bytes xs)) n ∙ number_widths (field_numbers f) in
+    let s = sections_length order cards words entries steps f numbers e n in
+    record { header = h; whole = omega arith }

@@ -9,7 +9,8 @@ use Rattle.memory.proofs.Bytes.{four_bytes_of}
 use Rattle.orders.specs.Chosen.{order_by_code}
 use Rattle.orders.specs.declared.chosen.AnyOrder.{AnyOrder}
 use Rattle.orders.specs.declared.chosen.AnyOrder.TheVariants.{Sc, Tso, Pso, Rmo, Ibm370, Ia64}
-use Rattle.files.specs.Bytes.{number_at, part}
+use Rattle.memory.specs.Bytes.{number_at}
+use Rattle.files.specs.Bytes.{part}
 use Rattle.files.specs.Encoding.{number_bytes, encode_entry, encode_step, Number, CardEntryTyped, StepTyped, ReadsBack}
 use Rattle.files.specs.Header.{fields_of, header_in, header_of, in_bounds, laid_out, entries_start, steps_start, file_end, words_placed, entries_placed, steps_placed}
 use Rattle.files.specs.Reading.{has_room, both_read, reading}
@@ -23,13 +24,13 @@ use Rattle.files.specs.declared.header.Header.{Header}
 use Rattle.files.specs.declared.header.HeaderFault.TheVariants as of_header
 use Rattle.files.specs.declared.records.CardEntry.{CardEntry}
 use Rattle.files.specs.declared.records.RecordFault.{RecordFault}
-use Rattle.files.specs.declared.sections.BadRecord.{BadRecord}
+use Rattle.files.specs.declared.records.BadRecord.{BadRecord}
 use Rattle.files.specs.declared.step.Step.{Step}
 use Rattle.files.specs.declared.write_fault.WriteFault.{WriteFault}
 use Rattle.files.specs.declared.write_fault.WriteFault.TheVariants as of_write
 use Rattle.files.proofs.Laying.{bounded_from}
-use Rattle.files.proofs.Putting.{number_widths, entry_width, entry_widths, step_width, step_widths, sections_length}
-use Rattle.files.proofs.Recording.{ok_parts, number_read, number_next, entry_reads_back, step_reads_back}
+use Rattle.files.proofs.Putting.{number_widths, entry_widths, step_widths, sections_length}
+use Rattle.files.specs.Recording.{ok_parts, number_read, number_next, entry_width, entry_reads_back, step_width, step_reads_back}
 
 -- number i of those that stand in front
 pub numbers_of : (ns rest : List ℕ) (i : ℕ) → AllByRecursion Number ns → i < length ns → number_at (flat_map number_bytes ns ++ rest) (4 * i) ≡ get_or ns i 0
@@ -65,7 +66,7 @@ read_behind {R} Typed enc d width back pre (x ∷ xs) k l h =
     let rest : records_from d bs (length xs) (k + 1) ≡ Ok xs =
     ap (λ t. records_from d t (length xs) (k + 1)) (sym (append_assoc pre (enc x) (flat_map enc xs)))
     ∙ read_behind Typed enc d width back (pre ++ enc x) xs (k + 1) longer h.1 in
-    ap (λ (r : Result R RecordFault). and_then k r (records_from d bs (length xs) (k + 1))) here ∙ ap (λ (r : Result (List R) BadRecord). and_then k (Ok x) r) rest
+    ap (λ (r : Result R RecordFault). and_then k r (records_from d bs (length xs) (k + 1))) here ∙ ap (λ (r : Result (List R) (BadRecord RecordFault)). and_then k (Ok x) r) rest
 
 records_read : {R : Type 0} (Typed : R → Type 0) (enc : R → List ℕ) (d : List ℕ → Result R RecordFault) → ((x : R) → length (enc x) ≡ 12) → ReadsBack Typed enc d
     → (xs : List R) → AllByRecursion Typed xs → records_of d (flat_map enc xs) (length xs) ≡ Ok xs
@@ -150,8 +151,8 @@ read_parts : (bs : List ℕ) (wr : List ℕ) (er : List CardEntry) (sr : List St
     → reading bs wr er sr ≡ Ok (record { header = h; words = ws; entries = es; steps = ss })
 read_parts bs wr er sr h ws es ss sound room head words entries steps =
     cond-true (sound_run bs) _ _ sound ∙ cond-true (has_room (header_of bs) (length wr) (length er) (length sr)) _ _ room
-    ∙ ap (λ (r : Result (List CardEntry) BadRecord). both_read (header_of bs) (words_of (words_section bs)) r (records_of decode_step (steps_section bs) (header_of bs).steps)) entries
-    ∙ ap (λ (r : Result (List Step) BadRecord). both_read (header_of bs) (words_of (words_section bs)) (Ok es) r) steps
+    ∙ ap (λ (r : Result (List CardEntry) (BadRecord RecordFault)). both_read (header_of bs) (words_of (words_section bs)) r (records_of decode_step (steps_section bs) (header_of bs).steps)) entries
+    ∙ ap (λ (r : Result (List Step) (BadRecord RecordFault)). both_read (header_of bs) (words_of (words_section bs)) (Ok es) r) steps
     ∙ ap (λ (k : Header). both_read k (words_of (words_section bs)) (Ok es) (Ok ss)) head
     ∙ ap (λ (t : List ℕ). both_read h t (Ok es) (Ok ss)) words
 
@@ -185,7 +186,7 @@ run_reads_back order cards words entries steps wr er sr h hw he hs lw le ls =
     (ap (λ (k : Fields). words_of (part bs 32 (4 * k.size))) same ∙ ap words_of p.0 ∙ words_read words hw)
     (ap (λ (k : Fields). records_of decode_entry (part bs (entries_start k) (12 * k.entries)) k.entries) same
     ∙ ap (λ (t : List ℕ). records_of decode_entry t (length entries)) p.1
-    ∙ records_read CardEntryTyped encode_entry decode_entry (λ e. entry_width e.card e.entry) entry_reads_back entries he)
+    ∙ records_read CardEntryTyped encode_entry decode_entry entry_width entry_reads_back entries he)
     (ap (λ (k : Fields). records_of decode_step (part bs (steps_start k) (12 * k.steps)) k.steps) same
     ∙ ap (λ (t : List ℕ). records_of decode_step t (length steps)) p.2
     ∙ records_read StepTyped encode_step decode_step step_width step_reads_back steps hs)

@@ -2,10 +2,10 @@
 use Rattle.std.proofs.Common.{◌≡◌, ℕ, zero, suc, ◌+◌, ◌-◌, ◌*◌, ◌<◌, List, [], ◌∷◌, length, get_or, Some, None, Ok, Err, Result, refl, ap, zero-add, arith}
 use Rattle.files.specs.Bytes.{part}
 use Rattle.files.specs.Sections.{and_then, records_from, records_of, fault_in}
-use Rattle.files.specs.declared.sections.BadRecord.{BadRecord}
+use Rattle.files.specs.declared.records.BadRecord.{BadRecord}
 use Rattle.files.specs.declared.records.RecordFault.{RecordFault}
 
-fault_behind : {R : Type 0} (k : ℕ) (x : R) (rest : Result (List R) BadRecord) → fault_in (and_then k (Ok x) rest) ≡ fault_in rest
+fault_behind : {R : Type 0} (k : ℕ) (x : R) (rest : Result (List R) (BadRecord RecordFault)) → fault_in (and_then k (Ok x) rest) ≡ fault_in rest
 fault_behind k x (Ok xs) = refl
 fault_behind k x (Err b) = refl
 
@@ -31,21 +31,21 @@ fault_end d bs zero k e = refl
 fault_end d bs (suc m) k e = absurd (omega arith)
 
 -- the parts of a list of records
-pub parts_of : {R : Type 0} (k : ℕ) (r : Result R RecordFault) (rest : Result (List R) BadRecord) (x : R) (xs : List R) → and_then k r rest ≡ Ok (x ∷ xs) → (r ≡ Ok x) × (rest ≡ Ok xs)
+pub parts_of : {R : Type 0} (k : ℕ) (r : Result R RecordFault) (rest : Result (List R) (BadRecord RecordFault)) (x : R) (xs : List R) → and_then k r rest ≡ Ok (x ∷ xs) → (r ≡ Ok x) × (rest ≡ Ok xs)
 parts_of k (Ok y) (Ok ys) x xs e = (cc, cc)
-parts_of k (Ok y) (Err b) x xs e = let z : ◌≡◌ {A = ℕ} 0 1 = cc in absurd (omega arith)
-parts_of k (Err f) rest x xs e = let z : ◌≡◌ {A = ℕ} 0 1 = cc in absurd (omega arith)
+parts_of k (Ok y) (Err b) x xs e = cc
+parts_of k (Err f) rest x xs e = cc
 
-pub never_none : {R : Type 0} (k : ℕ) (r : Result R RecordFault) (rest : Result (List R) BadRecord) → and_then k r rest ≡ Ok [] → ⊥
-never_none k (Ok y) (Ok ys) e = let z : ◌≡◌ {A = ℕ} 0 1 = cc in omega arith
-never_none k (Ok y) (Err b) e = let z : ◌≡◌ {A = ℕ} 0 1 = cc in omega arith
-never_none k (Err f) rest e = let z : ◌≡◌ {A = ℕ} 0 1 = cc in omega arith
+pub never_none : {R : Type 0} (k : ℕ) (r : Result R RecordFault) (rest : Result (List R) (BadRecord RecordFault)) → and_then k r rest ≡ Ok [] → ⊥
+never_none k (Ok y) (Ok ys) e = cc
+never_none k (Ok y) (Err b) e = cc
+never_none k (Err f) rest e = cc
 
 -- a list of m records has m of them
 pub records_length : {R : Type 0} (d : List ℕ → Result R RecordFault) (bs : List ℕ) (m k : ℕ) (xs : List R) → records_from d bs m k ≡ Ok xs → length xs ≡ m
 unfolding records_from
 records_length d bs zero k [] e = refl
-records_length d bs zero k (x ∷ xs) e = let z : ◌≡◌ {A = ℕ} 0 1 = cc in absurd (omega arith)
+records_length d bs zero k (x ∷ xs) e = cc
 records_length d bs (suc m) k [] e = absurd (never_none k (d (part bs (12 * k) 12)) (records_from d bs m (k + 1)) e)
 records_length d bs (suc m) k (x ∷ xs) e =
     let p = parts_of k (d (part bs (12 * k) 12)) (records_from d bs m (k + 1)) x xs e in
@@ -71,11 +71,11 @@ pub record_read : {R : Type 0} (d : List ℕ → Result R RecordFault) (bs : Lis
 record_read d bs m xs j e h = rw zero-add at (read_from d bs m 0 xs j e h)
 
 -- where no record is refused there is such a list
-pub records_there : {R : Type 0} (r : Result (List R) BadRecord) → fault_in r ≡ None → (xs : List R) × (r ≡ Ok xs)
+pub records_there : {R : Type 0} (r : Result (List R) (BadRecord RecordFault)) → fault_in r ≡ None → (xs : List R) × (r ≡ Ok xs)
 records_there (Ok xs) e = (xs, refl)
-records_there (Err b) e = let z : ◌≡◌ {A = ℕ} 0 1 = cc in absurd (omega arith)
+records_there (Err b) e = cc
 
 -- and where one is, that one is answered
-pub record_refused : {R : Type 0} (r : Result (List R) BadRecord) (b : BadRecord) → fault_in r ≡ Some b → r ≡ Err b
-record_refused (Ok xs) b e = let z : ◌≡◌ {A = ℕ} 0 1 = cc in absurd (omega arith)
+pub record_refused : {R : Type 0} (r : Result (List R) (BadRecord RecordFault)) (b : BadRecord RecordFault) → fault_in r ≡ Some b → r ≡ Err b
+record_refused (Ok xs) b e = cc
 record_refused (Err x) b e = cc

@@ -7,7 +7,8 @@ use Rattle.std.specs.List.{flat_map, AllByRecursion}
 use Rattle.memory.specs.Bytes.{words_of}
 use Rattle.memory.proofs.Bytes.{length-words_of}
 use Rattle.orders.specs.Chosen.{order_by_code}
-use Rattle.files.specs.Bytes.{number_at, part}
+use Rattle.memory.specs.Bytes.{number_at}
+use Rattle.files.specs.Bytes.{part}
 use Rattle.files.specs.Encoding.{number_bytes, encode_entry, encode_step, Byte, WritesBack}
 use Rattle.files.specs.Header.{fields_of, header_of, entries_start, steps_start, file_end, in_bounds, laid_out}
 use Rattle.files.specs.Reading.{Reading, has_room, both_read, file_read, reading}
@@ -22,11 +23,11 @@ use Rattle.files.specs.declared.header.HeaderFault.TheVariants as of_header
 use Rattle.files.specs.declared.read.ReadFault.TheVariants as of_read
 use Rattle.files.specs.declared.records.CardEntry.{CardEntry}
 use Rattle.files.specs.declared.records.RecordFault.{RecordFault}
-use Rattle.files.specs.declared.sections.BadRecord.{BadRecord}
+use Rattle.files.specs.declared.records.BadRecord.{BadRecord}
 use Rattle.files.specs.declared.step.Step.{Step}
 use Rattle.files.proofs.Laying.{bounded, placed, sized}
 use Rattle.files.proofs.Putting.{writing_ok}
-use Rattle.files.proofs.Recording.{ok_parts, bytes_back, number_back, number_fits, entry_writes_back, step_writes_back}
+use Rattle.files.specs.Recording.{ok_parts, bytes_back, number_back, number_fits, entry_writes_back, step_writes_back}
 use Rattle.files.proofs.Turns.{parts_of, never_none, records_length}
 
 -- two parts that touch
@@ -62,7 +63,7 @@ back_from : {R : Type 0} (enc : R → List ℕ) (d : List ℕ → Result R Recor
     → records_from d bs m k ≡ Ok xs → flat_map enc xs ≡ part bs (12 * k) (12 * m)
 unfolding records_from
 back_from enc d back bs zero k [] h e = refl
-back_from enc d back bs zero k (x ∷ xs) h e = let z : ◌≡◌ {A = ℕ} 0 1 = cc in absurd (omega arith)
+back_from enc d back bs zero k (x ∷ xs) h e = cc
 back_from enc d back bs (suc m) k [] h e = absurd (never_none k (d (part bs (12 * k) 12)) (records_from d bs m (k + 1)) e)
 back_from enc d back bs (suc m) k (x ∷ xs) h e =
     let p = parts_of k (d (part bs (12 * k) 12)) (records_from d bs m (k + 1)) x xs e in
@@ -80,11 +81,11 @@ code_back : (c : ℕ) → c ≤ 6 → handed_code (order_by_code c) ≡ c
 code_back c h = search rules
 
 -- what a reading that is accepted was made of
-both_parts : (h : Header) (ws : List ℕ) (es : Result (List CardEntry) BadRecord) (ss : Result (List Step) BadRecord) (x : Reading) → both_read h ws es ss ≡ Ok x
+both_parts : (h : Header) (ws : List ℕ) (es : Result (List CardEntry) (BadRecord RecordFault)) (ss : Result (List Step) (BadRecord RecordFault)) (x : Reading) → both_read h ws es ss ≡ Ok x
     → (x.header ≡ h) × (x.words ≡ ws) × (es ≡ Ok x.entries) × (ss ≡ Ok x.steps)
 both_parts h ws (Ok es) (Ok ss) x e = (cc, cc, cc, cc)
-both_parts h ws (Ok es) (Err b) x e = let z : ◌≡◌ {A = ℕ} 0 1 = cc in absurd (omega arith)
-both_parts h ws (Err b) ss x e = let z : ◌≡◌ {A = ℕ} 0 1 = cc in absurd (omega arith)
+both_parts h ws (Ok es) (Err b) x e = cc
+both_parts h ws (Err b) ss x e = cc
 
 -- a file is its four parts
 whole_parts : (bs : List ℕ) (m n k : ℕ) → 32 + m + n + k ≡ length bs → part bs 0 32 ++ (part bs 32 m ++ (part bs (32 + m) n ++ part bs (32 + m + n) k)) ≡ bs

@@ -1,6 +1,7 @@
 -- A day file: a count, then the offset and the length of each run, then the runs.
 use Rattle.std.specs.Prelude.{◌≡◌, ℕ, zero, suc, ◌+◌, ◌*◌, ◌<◌, ◌≤◌, Bool, cond, ◌&&◌, List, length, Some, None, Option, ◌==◌, nat_le, nat_lt}
-use Rattle.files.specs.Bytes.{number_at, part}
+use Rattle.memory.specs.Bytes.{number_at}
+use Rattle.files.specs.Bytes.{part}
 
 -- how many runs the header announces: none where the file has no room for the count
 abbrev pub run_count : List ℕ → ℕ

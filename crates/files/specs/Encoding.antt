@@ -1,10 +1,9 @@
 -- The bytes of numbers, entries and steps, and that reading undoes writing and writing reading.
 use Rattle.std.specs.Prelude.{◌≡◌, ℕ, ◌/◌, ◌%◌, ◌<◌, List, [], ◌∷◌, ◌++◌, Ok, Result}
 use Rattle.std.specs.List.{AllByRecursion}
+use Rattle.orders.specs.Marks.{mark_code}
 use Rattle.orders.specs.declared.entries.Entry.{Entry}
 use Rattle.orders.specs.declared.entries.Entry.TheVariants.{Load, Store, Barrier}
-use Rattle.orders.specs.declared.entries.Mark.{Mark}
-use Rattle.orders.specs.declared.entries.Mark.TheVariants.{Plain, Acquire, Release}
 use Rattle.files.specs.declared.records.CardEntry.{CardEntry}
 use Rattle.files.specs.declared.records.RecordFault.{RecordFault}
 use Rattle.files.specs.declared.step.Step.{Step}
@@ -17,12 +16,6 @@ number_bytes n = (n % 256) ∷ (n / 256 % 256) ∷ (n / 65536 % 256) ∷ (n / 16
 -- a record: four bytes and two numbers
 abbrev pub record_bytes : ℕ → ℕ → ℕ → ℕ → ℕ → ℕ → List ℕ
 record_bytes a b c d place word = a ∷ b ∷ c ∷ d ∷ (number_bytes place ++ number_bytes word)
-
--- the code of each mark
-abbrev pub mark_code : Mark → ℕ
-mark_code Plain = 0
-mark_code Acquire = 1
-mark_code Release = 2
 
 -- the record of an entry: card, kind, mark, mask, address, word; an unused field is zero
 abbrev pub entry_bytes : ℕ → Entry ℕ → List ℕ

@@ -21,22 +21,22 @@ record_fault_number of_record.Field = 16
 abbrev pub read_fault_number : ReadFault → ℕ
 read_fault_number (of_read.Header f) = header_fault_number f
 read_fault_number of_read.TooShort = 1
-read_fault_number (of_read.Entry p f) = record_fault_number f
-read_fault_number (of_read.Step p f) = record_fault_number f
+read_fault_number (of_read.Entry b) = record_fault_number b.fault
+read_fault_number (of_read.Step b) = record_fault_number b.fault
 
 -- its layer: 2 the header, 3 an entry, 4 a step, 0 none
 abbrev pub read_fault_layer : ReadFault → ℕ
 read_fault_layer (of_read.Header f) = 2
 read_fault_layer of_read.TooShort = 0
-read_fault_layer (of_read.Entry p f) = 3
-read_fault_layer (of_read.Step p f) = 4
+read_fault_layer (of_read.Entry b) = 3
+read_fault_layer (of_read.Step b) = 4
 
 -- its place: that of the entry or the step, else 0
 abbrev pub read_fault_place : ReadFault → ℕ
 read_fault_place (of_read.Header f) = 0
 read_fault_place of_read.TooShort = 0
-read_fault_place (of_read.Entry p f) = p
-read_fault_place (of_read.Step p f) = p
+read_fault_place (of_read.Entry b) = b.place
+read_fault_place (of_read.Step b) = b.place
 
 -- writing a file: what is handed makes no legal header, or a table too short
 abbrev pub write_fault_number : WriteFault → ℕ

@@ -3,7 +3,7 @@ use Rattle.std.specs.Prelude.{ℕ, ◌+◌, ◌*◌, Bool, ◌&&◌, List, Some,
 use Rattle.orders.specs.declared.chosen.AnyOrder.{AnyOrder}
 use Rattle.orders.specs.declared.chosen.AnyOrder.TheVariants.{Tso}
 use Rattle.orders.specs.Chosen.{order_by_code}
-use Rattle.files.specs.Bytes.{number_at}
+use Rattle.memory.specs.Bytes.{number_at}
 use Rattle.files.specs.declared.header.Fields.{Fields}
 use Rattle.files.specs.declared.header.Header.{Header}
 

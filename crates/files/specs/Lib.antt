@@ -5,6 +5,7 @@ pub mod Encoding
 pub mod Faults
 pub mod Header
 pub mod Reading
+pub mod Recording
 pub mod Records
 pub mod RoundTrip
 pub mod Run

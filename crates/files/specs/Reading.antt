@@ -11,8 +11,9 @@ use Rattle.files.specs.declared.header.Header.{Header}
 use Rattle.files.specs.declared.header.HeaderFault.TheVariants as of_header
 use Rattle.files.specs.declared.read.ReadFault.{ReadFault}
 use Rattle.files.specs.declared.read.ReadFault.TheVariants as of_read
-use Rattle.files.specs.declared.sections.BadRecord.{BadRecord}
+use Rattle.files.specs.declared.records.BadRecord.{BadRecord}
 use Rattle.files.specs.declared.records.CardEntry.{CardEntry}
+use Rattle.files.specs.declared.records.RecordFault.{RecordFault}
 use Rattle.files.specs.declared.step.Step.{Step}
 
 -- what a run file says
@@ -27,10 +28,10 @@ abbrev pub has_room : Header → ℕ → ℕ → ℕ → Bool
 has_room h words entries steps = nat_le h.size words && nat_le h.entries entries && nat_le h.steps steps
 
 -- what the records come to: entries are read before steps
-abbrev pub both_read : Header → List ℕ → Result (List CardEntry) BadRecord → Result (List Step) BadRecord → Result Reading ReadFault
+abbrev pub both_read : Header → List ℕ → Result (List CardEntry) (BadRecord RecordFault) → Result (List Step) (BadRecord RecordFault) → Result Reading ReadFault
 both_read h ws (Ok es) (Ok ss) = Ok (record { header = h; words = ws; entries = es; steps = ss })
-both_read h ws (Ok es) (Err b) = Err (of_read.Step b.place b.fault)
-both_read h ws (Err b) steps = Err (of_read.Entry b.place b.fault)
+both_read h ws (Ok es) (Err b) = Err (of_read.Step b)
+both_read h ws (Err b) steps = Err (of_read.Entry b)
 
 -- a header and the three sections behind it
 abbrev pub file_read : Header → List ℕ → List ℕ → List ℕ → Result Reading ReadFault
@@ -47,7 +48,7 @@ reading bs words entries steps =
     (Err (of_read.Header of_header.Broken))
 
 -- the first record that is refused: 16, with its layer and place
-abbrev pub record_refusal : Option BadRecord → Option BadRecord → Refusal
+abbrev pub record_refusal : Option (BadRecord RecordFault) → Option (BadRecord RecordFault) → Refusal
 record_refusal (Some b) in-steps = record { number = 16; layer = 3; place = b.place }
 record_refusal None (Some b) = record { number = 16; layer = 4; place = b.place }
 record_refusal None None = record { number = 0; layer = 0; place = 0 }

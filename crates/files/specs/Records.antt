@@ -1,19 +1,26 @@
 -- Records of 12 bytes: what each field may hold, and the entry or step that it makes.
 use Rattle.std.specs.Prelude.{ℕ, ◌*◌, cond, ◌&&◌, List, length, Ok, Err, Result, ◌==◌, slice_index}
+use Rattle.orders.specs.Marks.{mark_named}
 use Rattle.orders.specs.declared.entries.Entry.{Entry}
 use Rattle.orders.specs.declared.entries.Entry.TheVariants.{Load, Store, Barrier}
 use Rattle.orders.specs.declared.entries.Mark.{Mark}
-use Rattle.orders.specs.declared.entries.Mark.TheVariants.{Plain, Acquire, Release}
-use Rattle.files.specs.Bytes.{number_at, part}
+use Rattle.orders.specs.declared.entries.UnknownMark.{UnknownMark}
+use Rattle.memory.specs.Bytes.{number_at}
+use Rattle.files.specs.Bytes.{part}
 use Rattle.files.specs.declared.records.CardEntry.{CardEntry}
 use Rattle.files.specs.declared.records.RecordFault.{RecordFault}
 use Rattle.files.specs.declared.records.RecordFault.TheVariants.{Field}
 use Rattle.files.specs.declared.step.Step.{Step}
 use Rattle.files.specs.declared.step.Step.TheVariants.{Perform, PerformRecorded, Cache, WriteBack, Purge}
 
+-- a mark, where its code is one
+abbrev pub known_mark : Result Mark UnknownMark → Result Mark RecordFault
+known_mark (Ok m) = Ok m
+known_mark (Err u) = Err Field
+
 -- the mark of each code
 abbrev pub mark_of : ℕ → Result Mark RecordFault
-mark_of m = cond (m == 0) (Ok Plain) (cond (m == 1) (Ok Acquire) (cond (m == 2) (Ok Release) (Err Field)))
+mark_of m = known_mark (mark_named m)
 
 -- a load, where its mark is one
 abbrev pub load_of : Result Mark RecordFault → ℕ → Result (Entry ℕ) RecordFault

@@ -1,10 +1,11 @@
 // A day file: up to 32 run files behind one header.
 ghost use Rattle.std.specs.Prelude.{◌≡◌, ◌+◌, ◌*◌, ◌<◌, ◌≤◌, true, false, length, Some, None, MatchOption, MatchResult};
-ghost use Rattle.files.specs.Day.{run_count, gapless, sound_day, run_part_of, RunOf};
+ghost use Rattle.files.specs.Day.{run_count, offset_of, length_of, gapless, sound_day, run_part_of, RunOf};
 ghost use Rattle.files.specs.Faults.{header_fault_number};
 
-use crate::bytes::number_at;
 use crate::header::HeaderFault;
+use memory::numbers::number_at;
+use std::ops::Range;
 
 pub(crate) const MAX_DAY_BYTES: usize = 65536;
 
@@ -21,6 +22,7 @@ pub struct RunBytes<'a> {
 #[derive(Clone, Copy)]
 pub struct DayFile<'a> {
     bytes: &'a [u8],
+    ghost sound: { sound_day bytes.now ≡ true },
 }
 
 // How many runs the header announces; a file with no room for the count has none.
@@ -35,17 +37,30 @@ fn run_count(bytes: &[u8]) -> usize
     }
 }
 
+// Where run n starts and ends, as the header says.
+fn range_at(bytes: &[u8], n: usize) -> Range<usize>
+    requires { 12 + 8 * n ≤ length bytes.now }
+    ensures start { result.start ≡ offset_of bytes.now n }
+    ensures end { result.end ≡ offset_of bytes.now n + length_of bytes.now n }
+{
+    let start = number_at(bytes, 4 + 8 * n) as usize;
+    start..start + number_at(bytes, 8 + 8 * n) as usize
+}
+
 // Whether the runs lie without a gap from the header's end to the file's.
+#[tactic(auto, using(crate::proofs::Gapless::gapless_next, crate::proofs::Gapless::gapless_stop, crate::proofs::Gapless::gapless_end))]
 fn is_gapless(bytes: &[u8], count: usize) -> bool
     requires { (4 + 8 * count ≤ length bytes.now) × (count ≤ 32) }
     ensures { result ≡ gapless bytes.now count 0 (4 + 8 * count) }
 {
     let mut next = 4 + 8 * count;
+    // Kept: runs by number, as `DayFile::run` finds them; over the header's rows of eight bytes both would need their own reading.
     for n in 0..count {
-        if number_at(bytes, 4 + 8 * n) as usize != next {
+        let run = range_at(bytes, n);
+        if run.start != next {
             return false;
         }
-        next += number_at(bytes, 8 + 8 * n) as usize;
+        next = run.end;
     }
     next == bytes.len()
 }
@@ -78,21 +93,18 @@ impl<'a> DayFile<'a> {
     }
 
     // The n-th run, as a part of the day file.
+    #[tactic(auto, using(crate::proofs::Gapless::run_inside, crate::proofs::Gapless::sound))]
     pub fn run(&self, n: usize) -> Option<RunBytes<'a>>
         ensures found { MatchOption result (run_part_of self.now.bytes.now n ≡ None) (λ b. (run_part_of self.now.bytes.now n ≡ Some b.bytes.now) × (b.place ≡ n)) }
-        ensures sound { sound_day self.now.bytes.now ≡ true → MatchOption result (run_count self.now.bytes.now ≤ n) (λ b. RunOf self.now.bytes.now n b.bytes.now b.place) }
+        ensures sound { MatchOption result (run_count self.now.bytes.now ≤ n) (λ b. RunOf self.now.bytes.now n b.bytes.now b.place) }
     {
+        if n >= self.count() {
+            return None;
+        }
         let bytes = self.bytes;
-        if n >= run_count(bytes) || 12 + 8 * n > bytes.len() {
-            return None;
-        }
-        let offset = number_at(bytes, 4 + 8 * n) as usize;
-        let end = offset + number_at(bytes, 8 + 8 * n) as usize;
-        if end > bytes.len() {
-            return None;
-        }
+        let Range { start, end } = range_at(bytes, n);
         Some(RunBytes {
-            bytes: &bytes[offset..end],
+            bytes: &bytes[start..end],
             place: n,
         })
     }

@@ -19,8 +19,7 @@ fn day_length(runs: &[&[u8]]) -> Result<usize, HeaderFault>
         return Err(HeaderFault::Broken);
     }
     let mut end = 4 + 8 * runs.len();
-    for n in 0..runs.len() {
-        let run = runs[n];
+    for run in runs {
         if run.len() > MAX_DAY_BYTES - end {
             return Err(HeaderFault::Broken);
         }
@@ -37,8 +36,7 @@ fn put_places(runs: &[&[u8]], out: &mut [u8], at: usize) -> usize
 {
     let mut next = at;
     let mut start = 4 + 8 * runs.len();
-    for n in 0..runs.len() {
-        let run = runs[n];
+    for run in runs {
         next = put_all(&[start as u32, run.len() as u32], out, next);
         start += run.len();
     }

@@ -1,10 +1,11 @@
 // The header of a run file.
 ghost use Rattle.std.specs.Prelude.{◌≡◌, ◌≤◌, length};
 ghost use Rattle.files.specs.Faults.{header_fault_number};
-ghost use Rattle.files.specs.Header.{fields_of, in_bounds, laid_out, order_meant, header_in};
+ghost use Rattle.files.specs.Writing.{field_numbers};
+ghost use Rattle.files.specs.Header.{fields_of, entries_start, steps_start, file_end, in_bounds, laid_out, order_meant, header_in};
 
-use crate::bytes::number_at;
-use crate::sections::RECORD_BYTES;
+use crate::records::RECORD_BYTES;
+use memory::numbers::number_at;
 use orders::chosen::AnyOrder;
 
 // How many bytes a header has: the initial words start behind them.
@@ -19,14 +20,14 @@ pub(crate) const MAX_ENTRIES: u32 = 512;
 const LAST_CODE: u32 = 6;
 
 // Why a run file or a day file is refused.
-#[derive(Clone, Copy)]
+#[derive(Clone, Copy, PartialEq, Eq, Debug)]
 pub enum HeaderFault {
     // The header is against the layout or the bounds.
     Broken,
 }
 
 impl HeaderFault {
-    // The refusal's number.
+    // The refusal's number. Kept: a fault has a number, a layer and a place, and a `From` for `u32` would not say which.
     pub fn number(&self) -> u32
         ensures { result ≡ header_fault_number self.now }
     {
@@ -37,7 +38,7 @@ impl HeaderFault {
 }
 
 // What a header tells of the run.
-#[derive(Clone, Copy)]
+#[derive(Clone, Copy, PartialEq, Eq, Debug)]
 pub struct Header {
     pub cards: u32,
     // How many words the memory has.
@@ -63,7 +64,26 @@ pub(crate) struct Fields {
     pub(crate) words_at: u32,
 }
 
+// The eight numbers in turn.
+impl From<Fields> for [u32; 8] {
+    ghost from_gives = { λ fields numbers. numbers ≡ field_numbers fields };
+
+    fn from(fields: Fields) -> [u32; 8] {
+        [
+            fields.cards,
+            fields.size,
+            fields.code,
+            fields.entries,
+            fields.entries_at,
+            fields.steps,
+            fields.steps_at,
+            fields.words_at,
+        ]
+    }
+}
+
 impl Fields {
+    // Kept: an array of eight numbers, taken apart into the same eight names, is no shorter.
     pub(crate) fn read(bytes: &[u8]) -> Fields
         requires { 32 ≤ length bytes.now }
         ensures { result ≡ fields_of bytes.now }
@@ -91,17 +111,35 @@ impl Fields {
             && self.entries <= MAX_ENTRIES
     }
 
+    // Where the entries start: behind the initial words.
+    fn entries_start(&self) -> usize
+        ensures { result ≡ entries_start self.now }
+    {
+        HEADER_BYTES + 4 * self.size as usize
+    }
+
+    // Where the steps start: behind the entries.
+    fn steps_start(&self) -> usize
+        ensures { result ≡ steps_start self.now }
+    {
+        self.entries_start() + RECORD_BYTES * self.entries as usize
+    }
+
+    // Where the file ends: behind the steps.
+    pub(crate) fn file_end(&self) -> usize
+        ensures { result ≡ file_end self.now }
+    {
+        self.steps_start() + RECORD_BYTES * self.steps as usize
+    }
+
     // Whether the sections lie without a gap from the header's end to the end of a file of `len` bytes.
     pub(crate) fn laid_out(&self, len: usize) -> bool
         ensures { result ≡ laid_out self.now len }
     {
-        let entries_at = HEADER_BYTES + 4 * self.size as usize;
-        let steps_at = entries_at + RECORD_BYTES * self.entries as usize;
-        let end = steps_at + RECORD_BYTES * self.steps as usize;
         self.words_at as usize == HEADER_BYTES
-            && self.entries_at as usize == entries_at
-            && self.steps_at as usize == steps_at
-            && end == len
+            && self.entries_at as usize == self.entries_start()
+            && self.steps_at as usize == self.steps_start()
+            && self.file_end() == len
     }
 
     pub(crate) fn header(&self) -> Header
@@ -110,7 +148,7 @@ impl Fields {
         Header {
             cards: self.cards,
             size: self.size,
-            order: AnyOrder::by_code(self.code),
+            order: AnyOrder::try_from(self.code).ok(),
             entries: self.entries,
             steps: self.steps,
         }

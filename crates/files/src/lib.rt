@@ -1,10 +1,8 @@
 // Reading and writing run files and day files.
 #![tactic(auto)]
 
-mod bytes;
 pub mod day;
 pub mod day_write;
-pub mod encode;
 pub mod header;
 mod put;
 pub mod read;

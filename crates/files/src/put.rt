@@ -1,12 +1,12 @@
 // Putting numbers and records into a table of bytes, one behind the other.
 ghost use Rattle.std.specs.Prelude.{◌≡◌, ℕ, ◌+◌, ◌≤◌, List, length};
-ghost use Rattle.files.specs.Encoding.{number_bytes, encode_entry, encode_step};
+ghost use Rattle.files.specs.Encoding.{number_bytes};
 ghost use Rattle.files.specs.Writing.{written_at};
 ghost use Rattle.std.specs.List.{flat_map};
 
-use crate::encode::{encode_entry, encode_step};
-use crate::records::CardEntry;
-use crate::step::Step;
+use crate::records::Record;
+
+// Kept: with a struct of the table and the place, each function would promise besides that the table stays the one lent.
 
 // Puts bytes from byte `at` on, and answers where they end.
 pub(crate) fn put_bytes(bytes: &[u8], out: &mut [u8], at: usize) -> usize
@@ -33,24 +33,17 @@ pub(crate) trait Written: Copy {
 impl Written for u32 {
     ghost encoded = { number_bytes };
 
+    #[tactic(auto, unfolding(crate::specs::Encoding::number_bytes))]
     fn put(self, out: &mut [u8], at: usize) -> usize {
         put_bytes(&self.to_le_bytes(), out, at)
     }
 }
 
-impl Written for CardEntry {
-    ghost encoded = { encode_entry };
+impl<R: Record> Written for R {
+    ghost encoded = { R.encoded };
 
     fn put(self, out: &mut [u8], at: usize) -> usize {
-        put_bytes(&encode_entry(self), out, at)
-    }
-}
-
-impl Written for Step {
-    ghost encoded = { encode_step };
-
-    fn put(self, out: &mut [u8], at: usize) -> usize {
-        put_bytes(&encode_step(self), out, at)
+        put_bytes(&self.encode(), out, at)
     }
 }
 
@@ -69,8 +62,7 @@ pub(crate) fn put_all<R: Written>(rows: &[R], out: &mut [u8], at: usize) -> usiz
     ensures put { out.new ≡ written_at out.old at (flat_map R.encoded rows.now) }
 {
     let mut next = at;
-    for n in 0..rows.len() {
-        let row = rows[n];
+    for row in rows {
         next = row.put(out, next);
     }
     next

@@ -7,20 +7,20 @@ ghost use Rattle.files.specs.declared.read.ReadFault.TheVariants as of_read;
 ghost use Rattle.std.specs.Prelude.{◌≡◌, None, Err, MatchResult, OnOk};
 
 use crate::header::{Header, HeaderFault};
-use crate::records::{CardEntry, RecordFault};
+use crate::records::{BadRecord, CardEntry, RecordFault};
 use crate::run_file::RunFile;
 use crate::sections::{check_records, records_into};
 use crate::step::Step;
 use crate::words::words_into;
 
 // Why a run file is not read.
-#[derive(Clone, Copy)]
+#[derive(Clone, Copy, PartialEq, Eq, Debug)]
 pub enum ReadFault {
     Header(HeaderFault),
     // A table has fewer rows than the header announces.
     TooShort,
-    Entry { place: u32, fault: RecordFault },
-    Step { place: u32, fault: RecordFault },
+    Entry(BadRecord<RecordFault>),
+    Step(BadRecord<RecordFault>),
 }
 
 impl From<HeaderFault> for ReadFault {
@@ -45,19 +45,8 @@ fn check_file(file: RunFile<'_>) -> Result<(), ReadFault>
     ensures entries { MatchResult result (λ _. fault_in (records_of decode_entry file.entry.entries.now file.entry.header.entries) ≡ None) (λ f. file_read file.entry.header file.entry.words.now file.entry.entries.now file.entry.steps.now ≡ Err f) }
     ensures steps { OnOk result (fault_in (records_of decode_step file.entry.steps.now file.entry.header.steps) ≡ None) }
 {
-    if let Err(bad) = check_records::<CardEntry>(file.entries, file.header.entries) {
-        return Err(ReadFault::Entry {
-            place: bad.place,
-            fault: bad.fault,
-        });
-    }
-    if let Err(bad) = check_records::<Step>(file.steps, file.header.steps) {
-        return Err(ReadFault::Step {
-            place: bad.place,
-            fault: bad.fault,
-        });
-    }
-    Ok(())
+    check_records::<CardEntry>(file.entries, file.header.entries).map_err(ReadFault::Entry)?;
+    check_records::<Step>(file.steps, file.header.steps).map_err(ReadFault::Step)
 }
 
 // Reads a run file into the first rows of the tables; a refused call leaves them as they were.

@@ -1,5 +1,5 @@
 // A run file: a header, initial words, entries and steps.
-ghost use Rattle.std.specs.Prelude.{◌≡◌, ◌*◌, true, false, length, IfOk, MatchResult};
+ghost use Rattle.std.specs.Prelude.{◌≡◌, ◌*◌, ◌≤◌, true, false, length, IfOk, MatchResult};
 ghost use Rattle.files.specs.Faults.{RefusedWith, header_fault_number, record_fault_number};
 ghost use Rattle.files.specs.Header.{fields_of, header_of};
 ghost use Rattle.files.specs.Records.{entry_at, step_at};
@@ -33,6 +33,7 @@ fn sound_fields(bytes: &[u8]) -> Result<Fields, HeaderFault>
 }
 
 impl<'a> RunFile<'a> {
+    #[tactic(auto, using(crate::proofs::Laying::opened))]
     pub fn open(bytes: &'a [u8]) -> Result<RunFile<'a>, HeaderFault>
         ensures sound { MatchResult result (λ _. sound_run bytes.now ≡ true) (λ e. (sound_run bytes.now ≡ false) × (header_fault_number e ≡ 15)) }
         ensures header { IfOk result (λ f. f.header ≡ header_of bytes.now) }

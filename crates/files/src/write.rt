@@ -1,32 +1,19 @@
 // Writing a run file.
-ghost use Rattle.std.specs.Prelude.{◌≡◌, ◌+◌, ◌*◌, ◌≤◌, true, false, length, MatchResult, OnOk};
-ghost use Rattle.files.specs.Encoding.{number_bytes, encode_entry, encode_step};
+ghost use Rattle.std.specs.Prelude.{◌≡◌, true, false, length, MatchResult};
 ghost use Rattle.files.specs.Faults.{RefusedWith, header_fault_number, write_fault_number};
-ghost use Rattle.files.specs.Writing.{handed_code, fields_for, writable, field_numbers, file_bytes, writing, bytes_after, expected_number};
-ghost use Rattle.std.specs.List.{flat_map};
+ghost use Rattle.files.specs.Writing.{fields_for, writable, file_bytes, writing, bytes_after, expected_number};
 
 use crate::header::{Fields, HEADER_BYTES, HeaderFault, MAX_ENTRIES, MAX_SIZE};
 use crate::put::put_all;
-use crate::records::CardEntry;
-use crate::sections::RECORD_BYTES;
+use crate::records::{CardEntry, RECORD_BYTES};
 use crate::step::Step;
 use crate::write_fault::WriteFault;
 use orders::chosen::AnyOrder;
 
-// The number of steps has 32 bits; their offset always has, since words and entries are few.
-const MAX_STEPS: usize = 4294967295;
-
-// The code of the order that is handed, and 0 if none is.
-fn handed_code(order: Option<AnyOrder>) -> u32
-    ensures { result ≡ handed_code order }
-{
-    match order {
-        Some(handed) => handed.code(),
-        None => 0,
-    }
-}
-
 // The header of a file of so many words, entries and steps, if it is a legal one.
+// The number of steps has 32 bits; their offset always has, since words and entries are few.
+// Kept: a `Header` holds these five too, but its counts are the numbers of 32 bits that are tested here. So the offsets are
+// added up here too: those of `Fields` go by its numbers.
 fn header_for(
     order: Option<AnyOrder>,
     cards: u32,
@@ -34,10 +21,9 @@ fn header_for(
     entries: usize,
     steps: usize,
 ) -> Result<Fields, HeaderFault>
-    ensures legal { MatchResult result (λ f. (writable (fields_for order cards words entries steps) ≡ true) × (f ≡ fields_for order cards words entries steps)) (λ e. (writable (fields_for order cards words entries steps) ≡ false) × (header_fault_number e ≡ 15)) }
-    ensures small { OnOk result ((words ≤ 1024) × (entries ≤ 512) × (steps ≤ 4294967295)) }
+    ensures { MatchResult result (λ f. (writable (fields_for order cards words entries steps) ≡ true) × (f ≡ fields_for order cards words entries steps)) (λ e. (writable (fields_for order cards words entries steps) ≡ false) × (header_fault_number e ≡ 15)) }
 {
-    if words > MAX_SIZE as usize || entries > MAX_ENTRIES as usize || steps > MAX_STEPS {
+    if words > MAX_SIZE as usize || entries > MAX_ENTRIES as usize || steps > u32::MAX as usize {
         return Err(HeaderFault::Broken);
     }
     let entries_at = HEADER_BYTES + 4 * words;
@@ -45,7 +31,7 @@ fn header_for(
     let fields = Fields {
         cards,
         size: words as u32,
-        code: handed_code(order),
+        code: order.map_or(0, u32::from),
         entries: entries as u32,
         entries_at: entries_at as u32,
         steps: steps as u32,
@@ -56,32 +42,6 @@ fn header_for(
         return Err(HeaderFault::Broken);
     }
     Ok(fields)
-}
-
-// The eight numbers of a header, in turn.
-fn field_numbers(fields: Fields) -> [u32; 8]
-    ensures numbers { result ≡ field_numbers fields }
-    ensures bytes { length (flat_map number_bytes result) ≡ 32 }
-{
-    [
-        fields.cards,
-        fields.size,
-        fields.code,
-        fields.entries,
-        fields.entries_at,
-        fields.steps,
-        fields.steps_at,
-        fields.words_at,
-    ]
-}
-
-// How many bytes the file has.
-fn file_length(words: &[u32], entries: &[CardEntry], steps: &[Step]) -> usize
-    requires { (length words.now ≤ 1024) × ((length entries.now ≤ 512) × (length steps.now ≤ 4294967295)) }
-    ensures counted { result ≡ 32 + 4 * length words.now + 12 * length entries.now + 12 * length steps.now }
-    ensures bytes { result ≡ 32 + length (flat_map number_bytes words.now) + length (flat_map encode_entry entries.now) + length (flat_map encode_step steps.now) }
-{
-    HEADER_BYTES + 4 * words.len() + RECORD_BYTES * entries.len() + RECORD_BYTES * steps.len()
 }
 
 // Writes a run file into the first bytes of `out`, and answers its length; a refused call leaves `out` as it was.
@@ -98,10 +58,10 @@ pub fn write_run(
     ensures refusal { RefusedWith write_fault_number (expected_number (writable (fields_for order cards (length words.now) (length entries.now) (length steps.now)))) result }
 {
     let fields = header_for(order, cards, words.len(), entries.len(), steps.len())?;
-    if file_length(words, entries, steps) > out.len() {
+    if fields.file_end() > out.len() {
         return Err(WriteFault::TooShort);
     }
-    let header = field_numbers(fields);
+    let header = <[u32; 8]>::from(fields);
     let words_at = put_all(&header, out, 0);
     let entries_at = put_all(words, out, words_at);
     let steps_at = put_all(entries, out, entries_at);

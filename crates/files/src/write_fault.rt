@@ -7,7 +7,7 @@ use crate::header::HeaderFault;
 
 // There is no case for a record against the layout: each entry and each step that the types allow
 // has a record, from which it is read back (`records_round_trip`).
-#[derive(Clone, Copy)]
+#[derive(Clone, Copy, PartialEq, Eq, Debug)]
 pub enum WriteFault {
     // What is handed makes no legal header.
     Header(HeaderFault),
@@ -16,7 +16,7 @@ pub enum WriteFault {
 }
 
 impl WriteFault {
-    // The refusal's number.
+    // The refusal's number. Kept: a fault has a number, a layer and a place, and a `From` for `u32` would not say which.
     pub fn number(&self) -> u32
         ensures { result ≡ write_fault_number self.now }
     {

@@ -1,9 +1,8 @@
 -- Reads and writes of two banks, from those of one bank.
-use Rattle.std.proofs.Common.{◌≡◌, ℕ, zero, suc, ◌*◌, ◌/◌, ◌%◌, ◌<◌, ◌≤◌, min, eqb, ltb, ◌≢◌, List, [], ◌∷◌, length, get_or, set, sym, refl, ap, ◌∙◌, arith}
-use Rattle.std.proofs.lemmas.Bool.{cond-true, cond-false, and_from, and_left, and_right, lt-ltb, le-ltb, eq-eqb, ne_eqb}
+use Rattle.std.proofs.Common.{◌≡◌, ℕ, zero, suc, ◌*◌, ◌/◌, ◌%◌, ◌<◌, ◌≤◌, min, List, [], ◌∷◌, length, get_or, set, sym, refl, ap, ◌∙◌, arith}
 use Rattle.memory.specs.Meaning.{read_of, write_of, shown}
 use Rattle.memory.specs.Shown.{shown-length, shown_read, shown_write}
-use Rattle.layers.specs.Banks.{in_turn, banks_of, bank_written}
+use Rattle.layers.specs.Banks.{in_turn, banks_of}
 use Rattle.layers.proofs.Reading.{read_same, write_same}
 
 abbrev double : ℕ → ℕ
@@ -84,13 +83,3 @@ unfolding banks_of
 odd_write es os a w z =
     let e : suc (double (a / 2)) ≡ a = omega (arith, double_is (a / 2)) in
     ap shown (in_turn-set_odd es os (a / 2) w) ∙ shown_write (in_turn es os) (suc (double (a / 2))) w ∙ ap (λ k. set (shown (in_turn es os)) k w) e
-
--- what a bank holds after a write to it, after one to the other bank, and after one that is refused
-pub bank_in : {W : Type 0} (r : ℕ) (all bank : List W) (a : ℕ) (w : W) → a < length all → a % 2 ≡ r → set bank (a / 2) w ≡ bank_written r all bank a w
-bank_in r all bank a w h z = sym (cond-true _ _ _ (and_from _ _ (lt-ltb a (length all) h) (eq-eqb (a % 2) r z)))
-
-pub bank_other : {W : Type 0} (r : ℕ) (all bank : List W) (a : ℕ) (w : W) → a % 2 ≢ r → bank ≡ bank_written r all bank a w
-bank_other r all bank a w z = sym (cond-false _ _ _ (and_right (ltb a (length all)) _ (ne_eqb (a % 2) r z)))
-
-pub bank_out : {W : Type 0} (r : ℕ) (all bank : List W) (a : ℕ) (w : W) → length all ≤ a → bank ≡ bank_written r all bank a w
-bank_out r all bank a w h = sym (cond-false _ _ _ (and_left _ (eqb (a % 2) r) (le-ltb a (length all) h)))

@@ -1,11 +1,11 @@
 -- The ways through an exchange of two words.
-use Rattle.std.proofs.Common.{◌≡◌, ℕ, zero, suc, ◌<◌, ◌≤◌, false, ◌&&◌, ltb, List, [], ◌∷◌, length, Ok, Err, Result, sym, ap, ◌∙◌, arith}
+use Rattle.std.proofs.Common.{◌≡◌, ℕ, zero, suc, ◌<◌, ◌≤◌, false, ◌&&◌, ltb, List, [], ◌∷◌, length, Ok, Err, sym, ◌∙◌, arith}
 use Rattle.std.proofs.lemmas.Bool.{cond-false, and_left, and_right, le-ltb}
 use Rattle.memory.specs.declared.fault.MemoryFault.{MemoryFault}
 use Rattle.memory.specs.declared.fault.MemoryFault.TheVariants.{NoSuchAddress}
 use Rattle.memory.specs.Meaning.{read_of, write_of}
 use Rattle.memory.proofs.Meaning.{write_in}
-use Rattle.layers.specs.Stacks.{swap_of, exchanged, swapped}
+use Rattle.layers.specs.Stacks.{swap_of}
 
 -- a word was read: the address is below the size
 read_below : {W : Type 0} (ms : List W) (a : ℕ) (x : W) → Ok x ≡ read_of ms a → a < length ms
@@ -27,13 +27,6 @@ first_refused ms a b f e = refusal ms a b f (and_left _ _ (le-ltb a (length ms) 
 
 pub second_refused : {W : Type 0} (ms : List W) (a b : ℕ) (f : MemoryFault) → Err f ≡ read_of ms b → Err f ≡ swap_of ms a b
 second_refused ms a b f e = refusal ms a b f (and_right _ _ (le-ltb b (length ms) (refused_past ms b f e)))
-
-pub first_unchanged : {W : Type 0} (ms : List W) (a b : ℕ) (f : MemoryFault) → Err f ≡ read_of ms a → ms ≡ swapped ms a b
-first_unchanged {W} ms a b f e = ap (λ (r : Result W MemoryFault). exchanged r (read_of ms b) ms a b) e
-
-pub second_unchanged : {W : Type 0} (ms : List W) (a b : ℕ) (x : W) (f : MemoryFault) → Ok x ≡ read_of ms a → Err f ≡ read_of ms b → ms ≡ swapped ms a b
-second_unchanged {W} ms a b x f d e =
-    ap (λ (r : Result W MemoryFault). exchanged (Ok x) r ms a b) e ∙ ap (λ (r : Result W MemoryFault). exchanged r (read_of ms b) ms a b) d
 
 -- where a word was read, the write is not refused
 pub not_refused : {W : Type 0} (ms : List W) (a : ℕ) (x : W) (f : MemoryFault) → Ok x ≡ read_of ms a → Err f ≡ write_of ms a → ⊥

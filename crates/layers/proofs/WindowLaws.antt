@@ -1,10 +1,9 @@
 -- Reads and writes of a window, from those below.
-use Rattle.std.proofs.Common.{◌≡◌, ℕ, ◌+◌, ◌<◌, ◌≤◌, List, length, get_or, take, drop, set, sym, ap, ◌∙◌, arith}
+use Rattle.std.proofs.Common.{◌≡◌, ℕ, ◌+◌, ◌<◌, List, length, get_or, take, drop, set, sym, ap, ◌∙◌, arith}
 use Rattle.std.proofs.lemmas.List.{get_or-take, get_or-drop, drop-set-add}
-use Rattle.std.proofs.lemmas.Bool.{cond-true, cond-false, lt-ltb, le-ltb}
 use Rattle.memory.specs.Meaning.{read_of, write_of}
 use Rattle.memory.specs.Shown.{take-set_any}
-use Rattle.layers.specs.Window.{window_of, window_written, length-window_of}
+use Rattle.layers.specs.Window.{window_of, length-window_of}
 use Rattle.layers.proofs.Reading.{read_same, write_same}
 
 window_of_get : {W : Type 0} (f n : ℕ) (ms : List W) (a : ℕ) (d : W) → a < length (window_of f n ms) → get_or ms (f + a) d ≡ get_or (window_of f n ms) a d
@@ -23,9 +22,3 @@ window_answer f n ms a h = write_same ms (window_of f n ms) (f + a) a (window_in
 pub window_write : {W : Type 0} (f n : ℕ) (ms : List W) (a : ℕ) (w : W) → window_of f n (set ms (f + a) w) ≡ set (window_of f n ms) a w
 unfolding window_of
 window_write f n ms a w = ap (take n) (drop-set-add f ms a w) ∙ take-set_any n (drop f ms) a w
-
-pub below_in : {W : Type 0} (f n : ℕ) (ms : List W) (a : ℕ) (w : W) → a < length (window_of f n ms) → set ms (f + a) w ≡ window_written f n ms a w
-below_in f n ms a w h = sym (cond-true _ _ _ (lt-ltb a (length (window_of f n ms)) h))
-
-pub below_out : {W : Type 0} (f n : ℕ) (ms : List W) (a : ℕ) (w : W) → length (window_of f n ms) ≤ a → ms ≡ window_written f n ms a w
-below_out f n ms a w h = sym (cond-false _ _ _ (le-ltb a (length (window_of f n ms)) h))

@@ -5,7 +5,7 @@ ghost use Rattle.layers.specs.Banks.{banks_of, bank_written, banks_of_bounded};
 ghost use Rattle.layers.specs.Words.{banks_words, banks_fixed};
 
 use memory::fault::MemoryFault;
-use memory::interface::Memory;
+use memory::interface::{Memory, check_address};
 
 #[derive(Drop)]
 pub struct Banks<E, O> {
@@ -44,16 +44,13 @@ impl<E: Memory, O: Memory<Word = E::Word>> Memory for Banks<E, O> {
     fn size(&self) -> u32
         ensures { result ≡ length (banks_words E.Memory.meaning O.Memory.meaning self.now) }
     {
-        let less = self.even.size().min(self.odd.size());
-        if less < 32768 { 2 * less } else { 65536 }
+        2 * self.even.size().min(self.odd.size()).min(32768)
     }
 
     fn read(&self, address: u32) -> Result<E::Word, MemoryFault>
         ensures { result ≡ read_of (banks_words E.Memory.meaning O.Memory.meaning self.now) address }
     {
-        if address >= self.size() {
-            return Err(MemoryFault::NoSuchAddress);
-        }
+        check_address(address, self.size())?;
         if address % 2 == 0 {
             self.even.read(address / 2)
         } else {
@@ -68,9 +65,7 @@ impl<E: Memory, O: Memory<Word = E::Word>> Memory for Banks<E, O> {
         ensures even { E.Memory.meaning self.new.even ≡ bank_written 0 (banks_words E.Memory.meaning O.Memory.meaning self.old) (E.Memory.meaning self.old.even) address word }
         ensures odd { O.Memory.meaning self.new.odd ≡ bank_written 1 (banks_words E.Memory.meaning O.Memory.meaning self.old) (O.Memory.meaning self.old.odd) address word }
     {
-        if address >= self.size() {
-            return Err(MemoryFault::NoSuchAddress);
-        }
+        check_address(address, self.size())?;
         if address % 2 == 0 {
             self.even.write(address / 2, word)
         } else {

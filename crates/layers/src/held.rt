@@ -1,6 +1,6 @@
-// The write that a write buffer keeps back, if any.
+// The write that a write buffer keeps back.
 #[derive(Clone, Copy)]
-pub enum Held<W> {
-    Nothing,
-    Kept { address: u32, word: W },
+pub struct HeldWord<W> {
+    pub address: u32,
+    pub word: W,
 }

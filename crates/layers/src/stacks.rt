@@ -33,6 +33,7 @@ pub struct Returned<T> {
     pub answer: Result<(), MemoryFault>,
 }
 
+// Kept: four calls in place of a generic one, which would take a closure that takes the layer apart, and speak of a layer in between.
 // Exchanges two words of a table by a window.
 pub fn swap_by_window<'a, W: Word>(
     table: WordTable<'a, W>,

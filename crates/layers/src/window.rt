@@ -5,7 +5,7 @@ ghost use Rattle.layers.specs.Window.{window_of, window_written, window_of_bound
 ghost use Rattle.layers.specs.Words.{window_words, window_fixed};
 
 use memory::fault::MemoryFault;
-use memory::interface::Memory;
+use memory::interface::{Memory, check_address};
 
 // `count` addresses from address `first` on, as far as the memory below reaches.
 #[derive(Drop)]
@@ -60,9 +60,7 @@ impl<M: Memory> Memory for Window<M> {
     fn read(&self, address: u32) -> Result<M::Word, MemoryFault>
         ensures { result ≡ read_of (window_words M.Memory.meaning self.now) address }
     {
-        if address >= self.size() {
-            return Err(MemoryFault::NoSuchAddress);
-        }
+        check_address(address, self.size())?;
         self.below.read(self.first + address)
     }
 
@@ -72,9 +70,7 @@ impl<M: Memory> Memory for Window<M> {
         ensures fixed { window_fixed M.Memory.fixed self.new ≡ window_fixed M.Memory.fixed self.old }
         ensures below { M.Memory.meaning self.new.below ≡ window_written self.old.first self.old.count (M.Memory.meaning self.old.below) address word }
     {
-        if address >= self.size() {
-            return Err(MemoryFault::NoSuchAddress);
-        }
+        check_address(address, self.size())?;
         self.below.write(self.first + address, word)
     }
 }

@@ -1,8 +1,11 @@
 -- Laws of words of four bytes.
-use Rattle.std.proofs.Common.{◌≡◌, ℕ, zero, suc, ◌+◌, ◌*◌, ◌/◌, ◌%◌, ◌<◌, ◌≤◌, ◌&&◌, ltb, List, [], ◌∷◌, length, get_or, set, Ok, sym, refl, ap, ◌∙◌, mod-eq_of_lt, arith}
+use Rattle.std.proofs.Common.{◌≡◌, ℕ, zero, suc, ◌+◌, ◌*◌, ◌/◌, ◌%◌, ◌-◌, ◌<◌, ◌≤◌, ◌&&◌, min, ltb, List, [], ◌∷◌, length, get_or, take, drop, set, Ok, length-drop, sym, refl, ap, ◌∙◌, mod-eq_of_lt, arith}
 use native.Mathlib.Nat.{div-div-eq-div-mul, mod-add-div'}
 use Rattle.std.proofs.lemmas.Bool.{and_from, and_parts, cond_both, cond-true, ltb-true, lt-ltb}
-use Rattle.memory.specs.Bytes.{four_bytes, words_of, four_put, word_put, bytes_written}
+use Rattle.std.proofs.lemmas.List.{take_all, get_or-drop, get_or_past}
+use Rattle.memory.specs.Bytes.{four_bytes, number_at, words_of, four_put, word_put, bytes_written}
+use borrow.Rule.Slice.PartMut.{put_mid}
+use Rattle.std.specs.Int.{w32, to_le_bytes}
 use Rattle.memory.specs.Meaning.{shown, read_of}
 use Rattle.memory.specs.Shown.{shown-length, shown_read}
 use Rattle.memory.proofs.Meaning.{read_in}
@@ -51,7 +54,8 @@ bytes_read bs i w h e d =
     let e3 : 4 * i + 3 ≡ suc (suc (suc (quad i))) = omega (arith, quad_is i) in
     let r = words_of_read bs i d h in cc
 
-pub bytes_answer : (bs : List ℕ) (i w : ℕ) → i < length (shown (words_of bs)) → w ≡ four_bytes (get_or bs (4 * i) 0) (get_or bs (4 * i + 1) 0) (get_or bs (4 * i + 2) 0) (get_or bs (4 * i + 3) 0) → Ok w ≡ read_of (shown (words_of bs)) i
+pub bytes_answer : (bs : List ℕ) (i w : ℕ) → i < length (shown (words_of bs)) → w ≡ number_at bs (4 * i) → Ok w ≡ read_of (shown (words_of bs)) i
+unfolding number_at
 bytes_answer bs i w h e =
     let n = shown-length (words_of bs) in
     let m = length-words_of bs in
@@ -90,3 +94,32 @@ table_out bs i w h =
     cond_both (ltb i 65536 && ltb (4 * i + 3) (length bs)) (word_put bs (4 * i) w) bs (λ r. bs ≡ r)
     (λ t. let p = and_parts (ltb i 65536) (ltb (4 * i + 3) (length bs)) t in absurd (omega (arith, ltb-true i 65536 p.0, ltb-true (4 * i + 3) (length bs) p.1)))
     (λ f. refl)
+
+four_placed : (bs : List ℕ) (i p q r s : ℕ) → i + 3 < length bs → put_mid i 4 bs (p ∷ q ∷ r ∷ s ∷ []) ≡ four_put bs i p q r s
+four_placed [] i p q r s h = absurd (omega arith)
+four_placed (a ∷ []) zero p q r s h = absurd (omega arith)
+four_placed (a ∷ b ∷ []) zero p q r s h = absurd (omega arith)
+four_placed (a ∷ b ∷ c ∷ []) zero p q r s h = absurd (omega arith)
+four_placed (a ∷ b ∷ c ∷ d ∷ rest) zero p q r s h = refl
+four_placed (x ∷ xs) (suc i) p q r s h = ap (λ t. x ∷ t) (four_placed xs i p q r s (omega arith))
+
+-- the four bytes of a number, put into four places
+pub number_put : (bs four : List ℕ) (i w n : ℕ) → i + 3 < length bs → four ≡ to_le_bytes w32 w → n ≡ 4 → put_mid i n bs four ≡ word_put bs i w
+number_put bs four i w n h e k = rw (k, e) (four_placed bs i (w % 256) (w / 256 % 256) (w / 65536 % 256) (w / 16777216 % 256) h)
+
+-- a byte of what follows place i
+rest_byte : (bs : List ℕ) (i m k : ℕ) → m ≡ min i (length bs) → get_or (take (length bs - m) (drop m bs)) k 0 ≡ get_or bs (i + k) 0
+rest_byte bs i m k e =
+    let l = length-drop m bs in
+    ap (λ t. get_or t k 0) (take_all (length bs - m) (drop m bs) (omega arith)) ∙ get_or-drop m bs k 0 ∙ grind (arith, get_or_past)
+
+pub number_rest : (bs : List ℕ) (i m w p q r s : ℕ) → m ≡ min i (length bs)
+    → p ≡ get_or (take (length bs - m) (drop m bs)) 0 0 → q ≡ get_or (take (length bs - m) (drop m bs)) 1 0
+    → r ≡ get_or (take (length bs - m) (drop m bs)) 2 0 → s ≡ get_or (take (length bs - m) (drop m bs)) 3 0
+    → w ≡ four_bytes p q r s → w ≡ number_at bs i
+unfolding number_at
+number_rest bs i m w p q r s e a b c d f =
+    let a' : p ≡ get_or bs i 0 = a ∙ rest_byte bs i m 0 e ∙ ap (λ k. get_or bs k 0) (omega arith) in
+    let b' = b ∙ rest_byte bs i m 1 e in
+    let c' = c ∙ rest_byte bs i m 2 e in
+    let d' = d ∙ rest_byte bs i m 3 e in cc

@@ -1,6 +1,7 @@
 -- Laws of what reading and writing answer.
-use Rattle.std.proofs.Common.{◌≡◌, ℕ, zero, suc, ◌<◌, ◌≤◌, List, [], ◌∷◌, length, get_or, Ok, Err, refl, ap, le_of_suc-le-suc, not-suc-le-zero, arith}
+use Rattle.std.proofs.Common.{◌≡◌, ℕ, zero, suc, ◌<◌, ◌≤◌, List, [], ◌∷◌, length, get_or, Ok, Err, Result, IsErr, refl, ap, le_of_suc-le-suc, not-suc-le-zero, arith}
 use Rattle.std.proofs.lemmas.Bool.Decides.{nat_tests}
+use Rattle.memory.specs.declared.fault.MemoryFault.{MemoryFault}
 use Rattle.memory.specs.declared.fault.MemoryFault.TheVariants.{NoSuchAddress}
 use Rattle.memory.specs.Meaning.{read_of, write_of}
 
@@ -16,6 +17,11 @@ read_out [] a h = refl
 read_out (w ∷ ws) zero h = absurd (not-suc-le-zero h)
 read_out (w ∷ ws) (suc a) h = read_out ws a (le_of_suc-le-suc h)
 
+-- the same for a refusal that was handed on
+pub read_refused : {W : Type 0} (ws : List W) (a : ℕ) (r : Result W MemoryFault) → length ws ≤ a → IsErr r → r ≡ read_of ws a
+read_refused ws a (Ok x) h e = cc
+read_refused ws a (Err NoSuchAddress) h e = read_out ws a h
+
 -- what there is to read below the size
 pub read_some : {W : Type 0} (ws : List W) (a : ℕ) → a < length ws → (x : W) × (Ok x ≡ read_of ws a) × (x ≡ get_or ws a x)
 read_some [] a h = absurd (not-suc-le-zero h)
@@ -28,4 +34,4 @@ write_in ws a h = grind (arith, nat_tests)
 pub write_out : {W : Type 0} (ws : List W) (a : ℕ) → length ws ≤ a → Err NoSuchAddress ≡ write_of ws a
 write_out ws a h = grind (arith, nat_tests)
 
-pub ruleset answers = (read_in, read_out, write_in, write_out)
+pub ruleset answers = (read_in, read_out, read_refused, write_in, write_out)

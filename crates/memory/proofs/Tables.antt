@@ -1,8 +1,8 @@
 -- Rows laid over a table, one after the other.
-use Rattle.std.proofs.Common.{◌≡◌, ℕ, zero, suc, ◌+◌, ◌<◌, ◌≤◌, min, List, [], ◌∷◌, length, get_or, take, set, Result, sym, refl, ap, ◌∙◌, add-one, arith}
+use Rattle.std.proofs.Common.{◌≡◌, ℕ, zero, suc, ◌+◌, ◌<◌, ◌≤◌, min, List, [], ◌∷◌, length, get_or, take, set, Ok, Result, sym, refl, ap, ◌∙◌, add-one, arith}
 use Rattle.memory.specs.declared.fault.MemoryFault.{MemoryFault}
 use Rattle.memory.specs.Meaning.{read_of}
-use Rattle.memory.specs.Tables.{laid_over, word_copied}
+use Rattle.memory.specs.Tables.{laid_over}
 use Rattle.memory.proofs.Meaning.{read_some}
 
 laid_nothing : {A : Type 0} (old : List A) → laid_over [] old ≡ old
@@ -38,7 +38,14 @@ laid_all (x ∷ xs) (y ∷ ys) zero h = absurd (omega arith)
 laid_all (x ∷ xs) (y ∷ ys) (suc i) h = ap (λ rows. x ∷ rows) (laid_all xs ys i (omega arith))
 
 -- one word of a memory more
-pub copied_more : {W : Type 0} (ms old rows after : List W) (a : ℕ) → a < length ms → a < length old → rows ≡ laid_over (take a ms) old → after ≡ word_copied (read_of ms a) a rows → after ≡ laid_over (take (a + 1) ms) old
-copied_more {W} ms old rows after a h l e f =
-    let x = read_some ms a h in
-    f ∙ ap (λ (r : Result W MemoryFault). word_copied r a rows) (sym x.1) ∙ ap (λ (t : List W). set t a x.0) e ∙ laid_more ms old a x.0 h l x.2
+pub copied_more : {W : Type 0} (ms old rows after : List W) (a : ℕ) (r : Result W MemoryFault) (x : W) → a < length ms → a < length old
+    → r ≡ read_of ms a → r ≡ Ok x → rows ≡ laid_over (take a ms) old → after ≡ set rows a x → after ≡ laid_over (take (a + 1) ms) old
+copied_more {W} ms old rows after a r x h l m n e f =
+    let y = read_some ms a h in
+    let s : Ok x ≡ Ok y.0 = sym n ∙ m ∙ sym y.1 in
+    let t : x ≡ get_or ms a x = cc in
+    f ∙ ap (λ (t : List W). set t a x) e ∙ laid_more ms old a x h l t
+
+-- below the size a read is not refused
+pub not_refused : {W : Type 0} (ms : List W) (a : ℕ) (r : Result W MemoryFault) → a < length ms → r ≡ read_of ms a → ((x : W) → r ≡ Ok x → ⊥) → ⊥
+not_refused ms a r h m n = let y = read_some ms a h in n y.0 (m ∙ sym y.1)

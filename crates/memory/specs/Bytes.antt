@@ -1,9 +1,13 @@
 -- Words of four bytes, the lowest byte first.
-use Rattle.std.specs.Prelude.{ℕ, suc, ◌+◌, ◌*◌, ◌/◌, ◌%◌, cond, ◌&&◌, List, [], ◌∷◌, length, nat_lt, slice_set}
+use Rattle.std.specs.Prelude.{ℕ, suc, ◌+◌, ◌*◌, ◌/◌, ◌%◌, cond, ◌&&◌, List, [], ◌∷◌, length, nat_lt, slice_index, slice_set}
 
 -- the number in four bytes
 abbrev pub four_bytes : ℕ → ℕ → ℕ → ℕ → ℕ
 four_bytes a b c d = a + b * 256 + c * 65536 + d * 16777216
+
+-- the number in the four bytes from place i on; a byte that is not there counts as 0
+unfoldable pub number_at : List ℕ → ℕ → ℕ
+number_at bs i = four_bytes (slice_index bs i) (slice_index bs (i + 1)) (slice_index bs (i + 2)) (slice_index bs (i + 3))
 
 -- the words in a list of bytes; a tail of fewer than four bytes has none
 unfoldable pub words_of : List ℕ → List ℕ

@@ -1,11 +1,12 @@
 // A memory of number words over a lent table of bytes: four bytes a word, the lowest first.
-ghost use Rattle.std.specs.Prelude.{◌≡◌, ◌+◌, ◌<◌, [], ◌∷◌, length, slice_index, slice_set};
+ghost use Rattle.std.specs.Prelude.{◌≡◌, [], ◌∷◌, length, slice_set};
 ghost use Rattle.memory.specs.Meaning.{shown, read_of, write_of};
-ghost use Rattle.memory.specs.Bytes.{words_of, four_bytes, word_put, bytes_written};
+ghost use Rattle.memory.specs.Bytes.{words_of, bytes_written};
 ghost use Rattle.memory.specs.Shown.{shown_bounded};
 
 use crate::fault::MemoryFault;
-use crate::interface::{Memory, shown_size};
+use crate::interface::{Memory, check_address, shown_size};
+use crate::numbers::{number_at, put_number};
 
 #[derive(Drop)]
 pub struct ByteTable<'a> {
@@ -19,25 +20,6 @@ impl<'a> ByteTable<'a> {
     {
         ByteTable { bytes }
     }
-}
-
-// The number in the four bytes from place k on.
-fn number_at(bytes: &[u8], k: usize) -> u32
-    requires { k + 3 < length bytes.now }
-    ensures { result ≡ four_bytes (slice_index bytes.now k) (slice_index bytes.now (k + 1)) (slice_index bytes.now (k + 2)) (slice_index bytes.now (k + 3)) }
-{
-    u32::from_le_bytes([bytes[k], bytes[k + 1], bytes[k + 2], bytes[k + 3]])
-}
-
-// Puts a number into the four bytes from place k on.
-fn put_number(bytes: &mut [u8], k: usize, word: u32)
-    requires { k + 3 < length bytes.old }
-    ensures { bytes.new ≡ word_put bytes.old k word }
-{
-    bytes[k] = (word % 256) as u8;
-    bytes[k + 1] = (word / 256 % 256) as u8;
-    bytes[k + 2] = (word / 65536 % 256) as u8;
-    bytes[k + 3] = (word / 16777216 % 256) as u8;
 }
 
 impl<'a> Memory for ByteTable<'a> {
@@ -58,9 +40,7 @@ impl<'a> Memory for ByteTable<'a> {
     fn read(&self, address: u32) -> Result<u32, MemoryFault>
         ensures { result ≡ read_of (shown (words_of self.now.bytes.now)) address }
     {
-        if address >= self.size() {
-            return Err(MemoryFault::NoSuchAddress);
-        }
+        check_address(address, self.size())?;
         Ok(number_at(self.bytes, 4 * address as usize))
     }
 
@@ -70,9 +50,7 @@ impl<'a> Memory for ByteTable<'a> {
         ensures fixed { self.new.bytes.ghost_name ∷ [] ≡ self.old.bytes.ghost_name ∷ [] }
         ensures table { self.new.bytes.now ≡ bytes_written self.old.bytes.now address word }
     {
-        if address >= self.size() {
-            return Err(MemoryFault::NoSuchAddress);
-        }
+        check_address(address, self.size())?;
         put_number(self.bytes, 4 * address as usize, word);
         Ok(())
     }

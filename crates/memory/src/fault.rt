@@ -8,7 +8,7 @@ pub enum MemoryFault {
 }
 
 impl MemoryFault {
-    // The refusal's number.
+    // The refusal's number. Kept: a fault has a number, a layer and a place, and a `From` for `u32` would not say which.
     pub fn number(&self) -> u32
         ensures { result ≡ memory_fault_number self.now }
     {

@@ -1,5 +1,5 @@
 // What a memory is: a list of words, read and written by address.
-ghost use Rattle.std.specs.Prelude.{◌≡◌, ℕ, ◌≤◌, min, List, length, slice_set};
+ghost use Rattle.std.specs.Prelude.{◌≡◌, ℕ, ◌<◌, ◌≤◌, OnOk, OnErr, min, List, length, slice_set};
 ghost use Rattle.memory.specs.Meaning.{read_of, write_of};
 
 use crate::fault::MemoryFault;
@@ -32,5 +32,17 @@ pub trait Memory {
 pub fn shown_size(n: usize) -> u32
     ensures { result ≡ min n 65536 }
 {
-    if n < 65536 { n as u32 } else { 65536 }
+    n.min(65536) as u32
+}
+
+// Refuses an address that is not below the size.
+pub fn check_address(address: u32, size: u32) -> Result<(), MemoryFault>
+    ensures ok { OnOk result (address < size) }
+    ensures err { OnErr result (size ≤ address) }
+{
+    if address < size {
+        Ok(())
+    } else {
+        Err(MemoryFault::NoSuchAddress)
+    }
 }

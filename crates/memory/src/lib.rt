@@ -5,6 +5,7 @@ pub mod byte_table;
 pub mod copying;
 pub mod fault;
 pub mod interface;
+pub mod numbers;
 pub mod origin;
 pub mod word;
 pub mod word_table;

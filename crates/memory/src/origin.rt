@@ -1,6 +1,4 @@
 // Words that say where they come from: the memory's initial words, or the store of a card's entry.
-ghost use Rattle.std.specs.Prelude.{◌≡◌};
-ghost use Rattle.memory.specs.Origins.{origin_alike};
 ghost use Rattle.std.proofs.Common.{rules};
 
 use crate::word::Word;
@@ -12,25 +10,7 @@ pub enum Origin {
 }
 
 impl Word for Origin {
-    ghost alike = { origin_alike };
-
     ghost alike_equal = { Prim.search rules };
 
     ghost equal_alike = { Prim.search rules };
-
-    fn same(&self, other: &Self) -> bool
-        ensures { result ≡ origin_alike self.now other.now }
-    {
-        match (*self, *other) {
-            (Origin::Initial, Origin::Initial) => true,
-            (
-                Origin::Store { card, entry },
-                Origin::Store {
-                    card: other_card,
-                    entry: other_entry,
-                },
-            ) => { card == other_card && entry == other_entry }
-            _ => false,
-        }
-    }
 }

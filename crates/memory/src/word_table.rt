@@ -4,7 +4,7 @@ ghost use Rattle.memory.specs.Meaning.{shown, read_of, write_of, rows_written};
 ghost use Rattle.memory.specs.Shown.{shown_bounded};
 
 use crate::fault::MemoryFault;
-use crate::interface::{Memory, shown_size};
+use crate::interface::{Memory, check_address, shown_size};
 use crate::word::Word;
 
 #[derive(Drop)]
@@ -19,16 +19,6 @@ impl<'a, W: Word> WordTable<'a, W> {
     {
         WordTable { words }
     }
-}
-
-// The word that a table shows at an address.
-fn word_at<W: Word>(words: &[W], address: u32) -> Result<W, MemoryFault>
-    ensures { result ≡ read_of (shown words.now) address }
-{
-    if address >= shown_size(words.len()) {
-        return Err(MemoryFault::NoSuchAddress);
-    }
-    Ok(words[address as usize])
 }
 
 impl<'a, W: Word> Memory for WordTable<'a, W> {
@@ -49,7 +39,8 @@ impl<'a, W: Word> Memory for WordTable<'a, W> {
     fn read(&self, address: u32) -> Result<W, MemoryFault>
         ensures { result ≡ read_of (shown self.now.words.now) address }
     {
-        word_at(self.words, address)
+        check_address(address, self.size())?;
+        Ok(self.words[address as usize])
     }
 
     fn write(&mut self, address: u32, word: W) -> Result<(), MemoryFault>
@@ -58,9 +49,7 @@ impl<'a, W: Word> Memory for WordTable<'a, W> {
         ensures fixed { self.new.words.ghost_name ∷ [] ≡ self.old.words.ghost_name ∷ [] }
         ensures table { self.new.words.now ≡ rows_written self.old.words.now address word }
     {
-        if address >= self.size() {
-            return Err(MemoryFault::NoSuchAddress);
-        }
+        check_address(address, self.size())?;
         self.words[address as usize] = word;
         Ok(())
     }

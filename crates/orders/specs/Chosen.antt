@@ -1,10 +1,12 @@
 -- The order chosen.
-use Rattle.std.specs.Prelude.{ℕ, Bool, cond, List, Some, None, Option, ◌==◌}
+use Rattle.std.specs.Prelude.{ℕ, Bool, cond, List, Ok, Err, Option, Result, ◌==◌}
+use Rattle.std.specs.Result.{result_ok}
 use Rattle.crf.specs.Fences.{Row}
 use Rattle.orders.specs.Tables.{no_fences, sc_takes, sc_before, ScKeeps, tso_takes, tso_before, TsoKeeps, pso_takes, pso_before, PsoKeeps, rmo_takes, rmo_before, RmoKeeps, ibm_takes, ibm_before, IbmKeeps, ia_takes, ia_before, ia_after, IaKeeps}
 use Rattle.orders.specs.declared.entries.Access.{Access}
 use Rattle.orders.specs.declared.entries.Shape.{Shape}
 use Rattle.orders.specs.declared.chosen.AnyOrder.{AnyOrder}
+use Rattle.orders.specs.declared.chosen.UnknownCode.{UnknownCode}
 use Rattle.orders.specs.declared.chosen.AnyOrder.TheVariants.{Sc, Tso, Pso, Rmo, Ibm370, Ia64}
 
 abbrev pub any_takes : AnyOrder → Shape → Bool
@@ -48,8 +50,12 @@ code_of Rmo = 4
 code_of Ibm370 = 5
 code_of Ia64 = 6
 
--- the order of a code
+-- the order of a code, or that it names none
+abbrev pub order_named : ℕ → Result AnyOrder UnknownCode
+order_named c =
+    cond (c == 1) (Ok Sc) (cond (c == 2) (Ok Tso) (cond (c == 3) (Ok Pso)
+    (cond (c == 4) (Ok Rmo) (cond (c == 5) (Ok Ibm370) (cond (c == 6) (Ok Ia64) (Err (record {})))))))
+
+-- the order of a code, if it names one
 abbrev pub order_by_code : ℕ → Option AnyOrder
-order_by_code c =
-    cond (c == 1) (Some Sc) (cond (c == 2) (Some Tso) (cond (c == 3) (Some Pso)
-    (cond (c == 4) (Some Rmo) (cond (c == 5) (Some Ibm370) (cond (c == 6) (Some Ia64) None)))))
+order_by_code c = result_ok (order_named c)

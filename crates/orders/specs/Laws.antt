@@ -1,9 +1,10 @@
 -- The laws of the memory orders.
-use Rattle.std.specs.Prelude.{◌≡◌, ℕ, ◌≤◌, Bool, true, cond, List, [], ◌∷◌, ◌++◌, ◌==◌, refl}
+use Rattle.std.specs.Prelude.{◌≡◌, ℕ, ◌≤◌, Bool, true, List, [], ◌∷◌, ◌++◌, ◌==◌, refl}
 use Rattle.std.proofs.Common.{inl, inr, arith}
 use Rattle.std.proofs.Math.Path.{subst⁻¹}
 use Rattle.std.proofs.lemmas.Bool.Decides.{nat_tests}
-use Rattle.orders.specs.Lists.{Some, Each}
+use Rattle.std.specs.List.{AllByRecursion}
+use Rattle.orders.specs.Lists.{Some}
 use Rattle.crf.specs.Fences.{Row, star_star}
 use Rattle.orders.specs.Fences.{by_mask, if_has, has}
 use Rattle.orders.specs.Order.{Fits, Fenced, kind_of, standing}
@@ -23,13 +24,20 @@ use Rattle.orders.specs.Between.{some_left, some_right, at_first, at_second, at_
 
 -- a mask that has a bit has the fence
 one : (P : Row → Type 0) (m b : ℕ) (k : FenceKind) → has m b ≡ true → P (star_star k) → Some P (if_has m b k)
-one P m b k h p = subst⁻¹ (λ (v : Bool). Some P (cond v (star_star k ∷ []) [])) h (inl p)
+one P m b k h p = rw h (inl p)
+
+-- the fences of a mask's first two bits, and of its first three
+abbrev first_two : ℕ → List Row
+first_two m = if_has m 1 Rr ++ if_has m 2 Rw
+
+abbrev first_three : ℕ → List Row
+first_three m = first_two m ++ if_has m 4 Wr
 
 pub in_mask : (P : Row → Type 0) (m : ℕ) (k : FenceKind) → has m (bit_of k) ≡ true → P (star_star k) → Some P (by_mask m)
-in_mask P m Rr h p = some_left P ((if_has m 1 Rr ++ if_has m 2 Rw) ++ if_has m 4 Wr) (if_has m 8 Ww) (some_left P (if_has m 1 Rr ++ if_has m 2 Rw) (if_has m 4 Wr) (some_left P (if_has m 1 Rr) (if_has m 2 Rw) (one P m 1 Rr h p)))
-in_mask P m Rw h p = some_left P ((if_has m 1 Rr ++ if_has m 2 Rw) ++ if_has m 4 Wr) (if_has m 8 Ww) (some_left P (if_has m 1 Rr ++ if_has m 2 Rw) (if_has m 4 Wr) (some_right P (if_has m 1 Rr) (if_has m 2 Rw) (one P m 2 Rw h p)))
-in_mask P m Wr h p = some_left P ((if_has m 1 Rr ++ if_has m 2 Rw) ++ if_has m 4 Wr) (if_has m 8 Ww) (some_right P (if_has m 1 Rr ++ if_has m 2 Rw) (if_has m 4 Wr) (one P m 4 Wr h p))
-in_mask P m Ww h p = some_right P ((if_has m 1 Rr ++ if_has m 2 Rw) ++ if_has m 4 Wr) (if_has m 8 Ww) (one P m 8 Ww h p)
+in_mask P m Rr h p = some_left P (first_three m) (if_has m 8 Ww) (some_left P (first_two m) (if_has m 4 Wr) (some_left P (if_has m 1 Rr) (if_has m 2 Rw) (one P m 1 Rr h p)))
+in_mask P m Rw h p = some_left P (first_three m) (if_has m 8 Ww) (some_left P (first_two m) (if_has m 4 Wr) (some_right P (if_has m 1 Rr) (if_has m 2 Rw) (one P m 2 Rw h p)))
+in_mask P m Wr h p = some_left P (first_three m) (if_has m 8 Ww) (some_right P (first_two m) (if_has m 4 Wr) (one P m 4 Wr h p))
+in_mask P m Ww h p = some_right P (first_three m) (if_has m 8 Ww) (one P m 8 Ww h p)
 
 -- the mask that an order takes has the bit
 mask_is : (m n b : ℕ) → has n b ≡ true → (m == n) ≡ true → has m b ≡ true
@@ -37,12 +45,21 @@ mask_is m n b h t = let e : m ≡ n = grind (arith, nat_tests) in subst⁻¹ (λ
 
 -- each barrier that an order takes has a fence with P
 module _ (takes : Shape → Bool) (ahead : Shape → List Row) (P : Row → Type 0) (bar : (m : ℕ) → takes (Barrier m) ≡ true → Some P (ahead (Barrier m))) where
-  pub across : (between : List Shape) → Each (λ e. takes e ≡ true) between → AcrossBarrier between → Some (λ e. Some P (ahead e)) between
+  pub across : (between : List Shape) → AllByRecursion (λ e. takes e ≡ true) between → AcrossBarrier between → Some (λ e. Some P (ahead e)) between
   across [] tb s = absurd s
   across (AccessOf a ∷ es) tb (inl s) = absurd s
   across (AccessOf a ∷ es) tb (inr s) = inr (across es tb.1 s)
   across (Barrier m ∷ es) tb (inl s) = inl (bar m tb.0)
   across (Barrier m ∷ es) tb (inr s) = inr (across es tb.1 s)
+
+-- where each barrier that an order takes has the bit of two accesses, one between them has a fence that fits
+at_barrier : (takes : Shape → Bool) (ahead behind : Shape → List Row) → ((m : ℕ) → ahead (Barrier m) ≡ by_mask m) →
+    (x y : Access) → x.address ≤ 1023 → y.address ≤ 1023 → ((m : ℕ) → takes (Barrier m) ≡ true → has m (bit_of (kind_of x.op y.op)) ≡ true) →
+    (between : List Shape) → AllByRecursion (λ e. takes e ≡ true) between → AcrossBarrier between → Some (Fits x y) (standing ahead behind x between y)
+at_barrier takes ahead behind of_mask x y hx hy bit between tb s =
+    at_some ahead behind x y between
+    (across takes ahead (Fits x y) (λ m t. subst⁻¹ (λ (rs : List Row). Some (Fits x y) rs) (of_mask m)
+    (in_mask (Fits x y) m (kind_of x.op y.op) (bit m t) (fits-star_star x y hx hy))) between tb s)
 
 abbrev as_op : Op → Access → Access
 as_op p x = record { op = p; mark = x.mark; address = x.address }
@@ -59,28 +76,22 @@ sc_fenced x between y hx hy tx tb ty k = at_second sc_before no_fences x y betwe
 
 -- tso
 module _ (x y : Access) (between : List Shape) (hx : x.address ≤ 1023) (hy : y.address ≤ 1023) where
-  tso_by : Each (λ e. tso_takes e ≡ true) between → (p q : Op) → TsoKinds (kind_of p q) between → Some (Fits (as_op p x) (as_op q y)) (standing tso_before no_fences (as_op p x) between (as_op q y))
+  tso_by : AllByRecursion (λ e. tso_takes e ≡ true) between → (p q : Op) → TsoKinds (kind_of p q) between → Some (Fits (as_op p x) (as_op q y)) (standing tso_before no_fences (as_op p x) between (as_op q y))
   tso_by tb Load Load k = at_second tso_before no_fences (as_op Load x) (as_op Load y) between (inl (fits-star_to _ _ hx hy))
   tso_by tb Load Store k = at_second tso_before no_fences (as_op Load x) (as_op Store y) between (inl (fits-star_to _ _ hx hy))
   tso_by tb Store Store k = at_second tso_before no_fences (as_op Store x) (as_op Store y) between (inr (inl (fits-star_to _ _ hx hy)))
-  tso_by tb Store Load k =
-      at_some tso_before no_fences (as_op Store x) (as_op Load y) between
-      (across tso_takes tso_before (Fits (as_op Store x) (as_op Load y)) (λ m t. in_mask (Fits (as_op Store x) (as_op Load y)) m Wr (mask_is m 4 4 refl t) (fits-star_star _ _ hx hy)) between tb k)
+  tso_by tb Store Load k = at_barrier tso_takes tso_before no_fences (λ m. refl) (as_op Store x) (as_op Load y) hx hy (λ m. mask_is m 4 4 refl) between tb k
 
 pub tso_fenced : Fenced tso_takes tso_before no_fences TsoKeeps
 tso_fenced x between y hx hy tx tb ty k = tso_by x y between hx hy tb x.op y.op k
 
 -- pso
 module _ (x y : Access) (between : List Shape) (hx : x.address ≤ 1023) (hy : y.address ≤ 1023) where
-  pso_by : Each (λ e. pso_takes e ≡ true) between → (p q : Op) → PsoKinds (kind_of p q) between → Some (Fits (as_op p x) (as_op q y)) (standing pso_before no_fences (as_op p x) between (as_op q y))
+  pso_by : AllByRecursion (λ e. pso_takes e ≡ true) between → (p q : Op) → PsoKinds (kind_of p q) between → Some (Fits (as_op p x) (as_op q y)) (standing pso_before no_fences (as_op p x) between (as_op q y))
   pso_by tb Load Load k = at_second pso_before no_fences (as_op Load x) (as_op Load y) between (inl (fits-star_to _ _ hx hy))
   pso_by tb Load Store k = at_second pso_before no_fences (as_op Load x) (as_op Store y) between (inl (fits-star_to _ _ hx hy))
-  pso_by tb Store Store k =
-      at_some pso_before no_fences (as_op Store x) (as_op Store y) between
-      (across pso_takes pso_before (Fits (as_op Store x) (as_op Store y)) (λ m t. in_mask (Fits (as_op Store x) (as_op Store y)) m Ww (mask_is m 12 8 refl t) (fits-star_star _ _ hx hy)) between tb k)
-  pso_by tb Store Load k =
-      at_some pso_before no_fences (as_op Store x) (as_op Load y) between
-      (across pso_takes pso_before (Fits (as_op Store x) (as_op Load y)) (λ m t. in_mask (Fits (as_op Store x) (as_op Load y)) m Wr (mask_is m 12 4 refl t) (fits-star_star _ _ hx hy)) between tb k)
+  pso_by tb Store Store k = at_barrier pso_takes pso_before no_fences (λ m. refl) (as_op Store x) (as_op Store y) hx hy (λ m. mask_is m 12 8 refl) between tb k
+  pso_by tb Store Load k = at_barrier pso_takes pso_before no_fences (λ m. refl) (as_op Store x) (as_op Load y) hx hy (λ m. mask_is m 12 4 refl) between tb k
 
 pub pso_fenced : Fenced pso_takes pso_before no_fences PsoKeeps
 pso_fenced x between y hx hy tx tb ty k = pso_by x y between hx hy tb x.op y.op k
@@ -99,18 +110,16 @@ rmo_fenced x between y hx hy tx tb ty k = at_some rmo_before no_fences x y betwe
 
 -- 370
 module _ (x y : Access) (between : List Shape) (hx : x.address ≤ 1023) (hy : y.address ≤ 1023) where
-  ibm_by : Each (λ e. ibm_takes e ≡ true) between → (p q : Op) → TsoKinds (kind_of p q) between → Some (Fits (as_op p x) (as_op q y)) (standing ibm_before no_fences (as_op p x) between (as_op q y))
+  ibm_by : AllByRecursion (λ e. ibm_takes e ≡ true) between → (p q : Op) → TsoKinds (kind_of p q) between → Some (Fits (as_op p x) (as_op q y)) (standing ibm_before no_fences (as_op p x) between (as_op q y))
   ibm_by tb Load Load k = at_second ibm_before no_fences (as_op Load x) (as_op Load y) between (inr (inl (fits-star_to _ _ hx hy)))
   ibm_by tb Load Store k = at_second ibm_before no_fences (as_op Load x) (as_op Store y) between (inl (fits-star_to _ _ hx hy))
   ibm_by tb Store Store k = at_second ibm_before no_fences (as_op Store x) (as_op Store y) between (inr (inl (fits-star_to _ _ hx hy)))
-  ibm_by tb Store Load k =
-      at_some ibm_before no_fences (as_op Store x) (as_op Load y) between
-      (across ibm_takes ibm_before (Fits (as_op Store x) (as_op Load y)) (λ m t. in_mask (Fits (as_op Store x) (as_op Load y)) m Wr (mask_is m 4 4 refl t) (fits-star_star _ _ hx hy)) between tb k)
+  ibm_by tb Store Load k = at_barrier ibm_takes ibm_before no_fences (λ m. refl) (as_op Store x) (as_op Load y) hx hy (λ m. mask_is m 4 4 refl) between tb k
 
   ibm_own : x.address ≡ y.address → (p q : Op) → kind_of p q ≡ Wr → Some (Fits (as_op p x) (as_op q y)) (ibm_access q y.address)
-  ibm_own e Load Load k = let z : ◌≡◌ {A = ℕ} 0 1 = cc in absurd (omega arith)
-  ibm_own e Load Store k = let z : ◌≡◌ {A = ℕ} 0 1 = cc in absurd (omega arith)
-  ibm_own e Store Store k = let z : ◌≡◌ {A = ℕ} 0 1 = cc in absurd (omega arith)
+  ibm_own e Load Load k = cc
+  ibm_own e Load Store k = cc
+  ibm_own e Store Store k = cc
   ibm_own e Store Load k = inl (fits-at_at (as_op Store x) (as_op Load y) hx hy e)
 
 pub ibm_fenced : Fenced ibm_takes ibm_before no_fences IbmKeeps
@@ -138,9 +147,7 @@ ia_fenced x between y hx hy tx tb ty (inl e) =
 ia_fenced x between y hx hy tx tb ty (inr (inl e)) =
     at_second ia_before ia_after x y between
     (subst⁻¹ (λ (v : Mark). Some (Fits x y) (ia_release v y.op y.address)) e (sc_second x y hx hy x.op y.op))
-ia_fenced x between y hx hy tx tb ty (inr (inr s)) =
-    at_some ia_before ia_after x y between
-    (across ia_takes ia_before (Fits x y) (λ m t. in_mask (Fits x y) m (kind_of x.op y.op) (mask_is m 15 (bit_of (kind_of x.op y.op)) (has_15 (kind_of x.op y.op)) t) (fits-star_star x y hx hy)) between tb s)
+ia_fenced x between y hx hy tx tb ty (inr (inr s)) = at_barrier ia_takes ia_before ia_after (λ m. refl) x y hx hy (λ m. mask_is m 15 (bit_of (kind_of x.op y.op)) (has_15 (kind_of x.op y.op))) between tb s
 
 -- each of the six
 pub any_fenced : (o : AnyOrder) → Fenced (any_takes o) (any_before o) (any_after o) (AnyKeeps o)

@@ -2,6 +2,7 @@ pub mod Lists
 pub mod Fences
 pub mod Order
 pub mod Tables
+pub mod Marks
 pub mod Chosen
 pub mod Translation
 pub mod Laws

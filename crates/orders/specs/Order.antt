@@ -1,7 +1,8 @@
 -- What every memory order owes.
 use Rattle.std.specs.Prelude.{◌≡◌, ℕ, ◌≤◌, Bool, true, List, [], ◌∷◌, ◌++◌, length}
 use Rattle.crf.specs.Spans.{within}
-use Rattle.orders.specs.Lists.{Some, Each}
+use Rattle.std.specs.List.{AllByRecursion}
+use Rattle.orders.specs.Lists.{Some}
 use Rattle.crf.specs.Fences.{Row}
 use Rattle.crf.specs.declared.instruction.FenceKind.{FenceKind}
 use Rattle.crf.specs.declared.instruction.FenceKind.TheVariants.{Rr, Rw, Wr, Ww}
@@ -37,7 +38,7 @@ abbrev pub Fenced : (Shape → Bool) → (Shape → List Row) → (Shape → Lis
 Fenced takes ahead behind keeps =
     (x : Access) (between : List Shape) (y : Access) →
     x.address ≤ 1023 → y.address ≤ 1023 →
-    takes (AccessOf x) ≡ true → Each (λ e. takes e ≡ true) between → takes (AccessOf y) ≡ true →
+    takes (AccessOf x) ≡ true → AllByRecursion (λ e. takes e ≡ true) between → takes (AccessOf y) ≡ true →
     keeps x between y → Some (Fits x y) (standing ahead behind x between y)
 
 -- how many fences an entry may have

@@ -1,5 +1,5 @@
 -- The translation of entries into instructions.
-use Rattle.std.specs.Prelude.{◌≡◌, ℕ, Bool, true, false, List, [], ◌∷◌, ◌++◌, Ok, Err, Result}
+use Rattle.std.specs.Prelude.{◌≡◌, ℕ, Bool, true, false, List, [], ◌∷◌, ◌++◌, drop, map, Ok, Err, Result}
 use Rattle.crf.specs.Fences.{Row, fence_row}
 use Rattle.crf.specs.declared.instruction.Instruction.{Instruction}
 use Rattle.crf.specs.declared.instruction.Instruction.TheVariants.{Loadl, Storel, Commit, Reconcile}
@@ -10,6 +10,7 @@ use Rattle.orders.specs.declared.entries.Entry.TheVariants.{Load as LoadEntry, S
 use Rattle.orders.specs.declared.entries.Shape.{Shape}
 use Rattle.orders.specs.declared.entries.Shape.TheVariants.{Access as AccessOf, Barrier}
 use Rattle.orders.specs.declared.translation.Translation.{Translation}
+use Rattle.orders.specs.declared.translation.Instructions.{Instructions}
 use Rattle.orders.specs.declared.translation.TranslationFault.{TranslationFault}
 use Rattle.orders.specs.declared.translation.TranslationFault.TheVariants.{NotTaken}
 
@@ -19,10 +20,6 @@ shape_of (LoadEntry m a) = AccessOf (record { op = LoadOp; mark = m; address = a
 shape_of (StoreEntry m a w) = AccessOf (record { op = StoreOp; mark = m; address = a })
 shape_of (BarrierEntry m) = Barrier m
 
-abbrev pub fence_rows : {W : Type 0} → List Row → List (Instruction W)
-fence_rows [] = []
-fence_rows (r ∷ rs) = fence_row r ∷ fence_rows rs
-
 -- the instructions of an entry itself
 abbrev pub core : {W : Type 0} → Entry W → List (Instruction W)
 core (LoadEntry m a) = Reconcile a ∷ Loadl a ∷ []
@@ -31,11 +28,15 @@ core (BarrierEntry m) = []
 
 -- an entry's instructions, under an order that sets these fences before it and after it
 abbrev pub translated : {W : Type 0} → (Shape → List Row) → (Shape → List Row) → Entry W → List (Instruction W)
-translated before after e = fence_rows (before (shape_of e)) ++ (core e ++ fence_rows (after (shape_of e)))
+translated before after e = map fence_row (before (shape_of e)) ++ (core e ++ map fence_row (after (shape_of e)))
 
 -- the instructions that a translation holds
 abbrev pub instructions : {W : Type 0} → Translation W → List (Instruction W)
-instructions t = fence_rows (rows t.before) ++ (core t.entry ++ fence_rows (rows t.after))
+instructions t = map fence_row (rows t.before) ++ (core t.entry ++ map fence_row (rows t.after))
+
+-- the instructions that are left to hand out
+abbrev pub left : {W : Type 0} → Instructions W → List (Instruction W)
+left s = drop s.at (instructions s.translation.now)
 
 -- the number of each refusal
 abbrev pub translation_fault_number : TranslationFault → ℕ

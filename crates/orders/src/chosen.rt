@@ -1,7 +1,7 @@
 // Any of the six memory orders, chosen as the program runs.
 ghost use Rattle.std.specs.Prelude.{◌≡◌};
 ghost use Rattle.orders.specs.Fences.{rows};
-ghost use Rattle.orders.specs.Chosen.{any_takes, any_before, any_after, AnyKeeps, order_by_code, code_of};
+ghost use Rattle.orders.specs.Chosen.{any_takes, any_before, any_after, AnyKeeps, order_named, code_of};
 ghost use Rattle.orders.specs.Laws.{any_fenced};
 ghost use Rattle.std.proofs.Common.{rules};
 
@@ -15,7 +15,7 @@ use crate::rmo::Rmo;
 use crate::sc::Sc;
 use crate::tso::Tso;
 
-#[derive(Clone, Copy)]
+#[derive(Clone, Copy, PartialEq, Eq, Debug)]
 pub enum AnyOrder {
     Sc,
     Tso,
@@ -25,26 +25,34 @@ pub enum AnyOrder {
     Ia64,
 }
 
-impl AnyOrder {
-    // The order that a file's code names, if it names one.
-    pub fn by_code(code: u32) -> Option<AnyOrder>
-        ensures { result ≡ order_by_code code }
-    {
+// A code that names no memory order.
+#[derive(Clone, Copy, PartialEq, Eq, Debug)]
+pub struct UnknownCode;
+
+// The order that a file's code names.
+impl TryFrom<u32> for AnyOrder {
+    type Error = UnknownCode;
+
+    ghost try_from_gives = { λ code r. r ≡ order_named code };
+
+    fn try_from(code: u32) -> Result<AnyOrder, UnknownCode> {
         match code {
-            1 => Some(AnyOrder::Sc),
-            2 => Some(AnyOrder::Tso),
-            3 => Some(AnyOrder::Pso),
-            4 => Some(AnyOrder::Rmo),
-            5 => Some(AnyOrder::Ibm370),
-            6 => Some(AnyOrder::Ia64),
-            _ => None,
+            1 => Ok(AnyOrder::Sc),
+            2 => Ok(AnyOrder::Tso),
+            3 => Ok(AnyOrder::Pso),
+            4 => Ok(AnyOrder::Rmo),
+            5 => Ok(AnyOrder::Ibm370),
+            6 => Ok(AnyOrder::Ia64),
+            _ => Err(UnknownCode),
         }
     }
+}
 
-    pub fn code(&self) -> u32
-        ensures { result ≡ code_of self.now }
-    {
-        match self {
+impl From<AnyOrder> for u32 {
+    ghost from_gives = { λ order code. code ≡ code_of order };
+
+    fn from(order: AnyOrder) -> u32 {
+        match order {
             AnyOrder::Sc => 1,
             AnyOrder::Tso => 2,
             AnyOrder::Pso => 3,
@@ -53,6 +61,20 @@ impl AnyOrder {
             AnyOrder::Ia64 => 6,
         }
     }
+}
+
+// What the order chosen answers.
+macro_rules! chosen {
+    ($order:expr, $ask:ident, $shape:expr) => {
+        match $order {
+            AnyOrder::Sc => Sc.$ask($shape),
+            AnyOrder::Tso => Tso.$ask($shape),
+            AnyOrder::Pso => Pso.$ask($shape),
+            AnyOrder::Rmo => Rmo.$ask($shape),
+            AnyOrder::Ibm370 => Ibm370.$ask($shape),
+            AnyOrder::Ia64 => Ia64.$ask($shape),
+        }
+    };
 }
 
 impl MemoryOrder for AnyOrder {
@@ -71,39 +93,18 @@ impl MemoryOrder for AnyOrder {
     fn takes(&self, shape: Shape) -> bool
         ensures { result ≡ any_takes self.now shape }
     {
-        match self {
-            AnyOrder::Sc => Sc.takes(shape),
-            AnyOrder::Tso => Tso.takes(shape),
-            AnyOrder::Pso => Pso.takes(shape),
-            AnyOrder::Rmo => Rmo.takes(shape),
-            AnyOrder::Ibm370 => Ibm370.takes(shape),
-            AnyOrder::Ia64 => Ia64.takes(shape),
-        }
+        chosen!(self, takes, shape)
     }
 
     fn before(&self, shape: Shape) -> Fences
         ensures { rows result ≡ any_before self.now shape }
     {
-        match self {
-            AnyOrder::Sc => Sc.before(shape),
-            AnyOrder::Tso => Tso.before(shape),
-            AnyOrder::Pso => Pso.before(shape),
-            AnyOrder::Rmo => Rmo.before(shape),
-            AnyOrder::Ibm370 => Ibm370.before(shape),
-            AnyOrder::Ia64 => Ia64.before(shape),
-        }
+        chosen!(self, before, shape)
     }
 
     fn after(&self, shape: Shape) -> Fences
         ensures { rows result ≡ any_after self.now shape }
     {
-        match self {
-            AnyOrder::Sc => Sc.after(shape),
-            AnyOrder::Tso => Tso.after(shape),
-            AnyOrder::Pso => Pso.after(shape),
-            AnyOrder::Rmo => Rmo.after(shape),
-            AnyOrder::Ibm370 => Ibm370.after(shape),
-            AnyOrder::Ia64 => Ia64.after(shape),
-        }
+        chosen!(self, after, shape)
     }
 }

@@ -50,7 +50,7 @@ impl MemoryOrder for Ia64 {
                     FenceKind::Ww,
                     access.address,
                 ),
-                _ => Fences::Zero,
+                _ => Fences::none(),
             },
             Shape::Barrier(mask) => Fences::of_mask(mask),
         }
@@ -71,9 +71,9 @@ impl MemoryOrder for Ia64 {
                     FenceKind::Ww,
                     access.address,
                 ),
-                _ => Fences::Zero,
+                _ => Fences::none(),
             },
-            Shape::Barrier(_) => Fences::Zero,
+            Shape::Barrier(_) => Fences::none(),
         }
     }
 }

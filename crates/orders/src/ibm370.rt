@@ -1,4 +1,4 @@
-// The order of the IBM 370: that of tso, and a load does not pass an earlier store of its own addressess.
+// The order of the IBM 370: that of tso, and a load does not pass an earlier store of its own address.
 ghost use Rattle.orders.specs.Fences.{rows};
 ghost use Rattle.orders.specs.Tables.{ibm_takes, ibm_before, no_fences, IbmKeeps};
 ghost use Rattle.std.specs.Prelude.{◌≡◌, []};
@@ -41,7 +41,7 @@ impl MemoryOrder for Ibm370 {
     {
         match shape {
             Shape::Access(access) => match access.op {
-                Op::Load => Fences::Two(
+                Op::Load => Fences::two(
                     Fence::own(FenceKind::Wr, access.address),
                     Fence::all_to(FenceKind::Rr, access.address),
                 ),
@@ -54,6 +54,6 @@ impl MemoryOrder for Ibm370 {
     fn after(&self, _shape: Shape) -> Fences
         ensures { rows result ≡ [] }
     {
-        Fences::Zero
+        Fences::none()
     }
 }

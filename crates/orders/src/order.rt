@@ -9,6 +9,7 @@ ghost use Rattle.orders.specs.declared.entries.Shape.{Shape};
 use crate::entries::Shape;
 use crate::fences::Fences;
 
+// Kept: six impls of one shape. Five have one `after` and take the same accesses, but a provided body has to be proved for each impl: `behind` may be any list there, and `Fences::none()` has no rows.
 pub trait MemoryOrder: Copy {
     // the entries that it takes
     ghost taken: { Self → Shape → Bool };

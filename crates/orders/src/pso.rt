@@ -41,8 +41,8 @@ impl MemoryOrder for Pso {
     {
         match shape {
             Shape::Access(access) => match access.op {
-                Op::Load => Fences::One(Fence::all_to(FenceKind::Rr, access.address)),
-                Op::Store => Fences::One(Fence::all_to(FenceKind::Rw, access.address)),
+                Op::Load => Fences::one(Fence::all_to(FenceKind::Rr, access.address)),
+                Op::Store => Fences::one(Fence::all_to(FenceKind::Rw, access.address)),
             },
             Shape::Barrier(mask) => Fences::of_mask(mask),
         }
@@ -51,6 +51,6 @@ impl MemoryOrder for Pso {
     fn after(&self, _shape: Shape) -> Fences
         ensures { rows result ≡ [] }
     {
-        Fences::Zero
+        Fences::none()
     }
 }

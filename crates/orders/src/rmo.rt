@@ -30,7 +30,7 @@ impl MemoryOrder for Rmo {
     {
         match shape {
             Shape::Access(access) => access.is_plain(),
-            Shape::Barrier(mask) => 1 <= mask && mask <= 15,
+            Shape::Barrier(mask) => (1..=15).contains(&mask),
         }
     }
 
@@ -38,7 +38,7 @@ impl MemoryOrder for Rmo {
         ensures { rows result ≡ rmo_before shape }
     {
         match shape {
-            Shape::Access(_) => Fences::Zero,
+            Shape::Access(_) => Fences::none(),
             Shape::Barrier(mask) => Fences::of_mask(mask),
         }
     }
@@ -46,6 +46,6 @@ impl MemoryOrder for Rmo {
     fn after(&self, _shape: Shape) -> Fences
         ensures { rows result ≡ [] }
     {
-        Fences::Zero
+        Fences::none()
     }
 }

@@ -30,5 +30,5 @@ pub fn rows_stand(order: AnyOrder) -> u32
     ensures ia64 { (o : Ia64) → Means (ia.taken o) (ia.ahead o) (ia.behind o) (ia.keeps o) ia_takes ia_before ia_after IaKeeps }
     ensures chosen { Means (any.taken order) (any.ahead order) (any.behind order) (any.keeps order) (any_takes order) (any_before order) (any_after order) (AnyKeeps order) }
 {
-    order.code()
+    u32::from(order)
 }

@@ -50,6 +50,6 @@ impl MemoryOrder for Sc {
     fn after(&self, _shape: Shape) -> Fences
         ensures { rows result ≡ [] }
     {
-        Fences::Zero
+        Fences::none()
     }
 }

@@ -1,8 +1,9 @@
 // The translation of an entry into instructions.
-ghost use Rattle.std.specs.Prelude.{◌≡◌, ◌≤◌, length};
+ghost use Rattle.std.specs.Prelude.{◌≡◌, ◌≤◌, length, map, slice_get};
+ghost use Rattle.std.specs.Iterator.{YieldsFirst, item_count};
+ghost use Rattle.crf.specs.Fences.{fence_row};
 ghost use Rattle.orders.specs.Fences.{rows};
-ghost use Rattle.orders.specs.Lists.{nth};
-ghost use Rattle.orders.specs.Translation.{shape_of, core, fence_rows, translated, instructions, Translates};
+ghost use Rattle.orders.specs.Translation.{shape_of, core, translated, instructions, left, Translates};
 
 use crate::entries::{Access, Entry, Op, Shape};
 use crate::fences::Fences;
@@ -10,7 +11,7 @@ use crate::order::MemoryOrder;
 use crf::instruction::Instruction;
 
 // An entry with the fences that stand before and after it.
-#[derive(Clone, Copy)]
+#[derive(Clone, Drop)]
 pub struct Translation<W> {
     pub before: Fences,
     pub entry: Entry<W>,
@@ -28,18 +29,18 @@ impl<W: Copy> Entry<W> {
     pub fn shape(&self) -> Shape
         ensures { result ≡ shape_of self.now }
     {
-        match self {
+        match *self {
             Entry::Load { mark, address } => Shape::Access(Access {
                 op: Op::Load,
-                mark: *mark,
-                address: *address,
+                mark,
+                address,
             }),
             Entry::Store { mark, address, .. } => Shape::Access(Access {
                 op: Op::Store,
-                mark: *mark,
-                address: *address,
+                mark,
+                address,
             }),
-            Entry::Barrier { mask } => Shape::Barrier(*mask),
+            Entry::Barrier { mask } => Shape::Barrier(mask),
         }
     }
 
@@ -49,53 +50,31 @@ impl<W: Copy> Entry<W> {
         ensures few { result ≤ 2 }
     {
         match self {
-            Entry::Load { .. } => 2,
-            Entry::Store { .. } => 2,
+            Entry::Load { .. } | Entry::Store { .. } => 2,
             Entry::Barrier { .. } => 0,
         }
     }
 
     fn core_at(&self, k: usize) -> Option<Instruction<W>>
-        ensures { result ≡ nth (core self.now) k }
+        ensures { result ≡ slice_get (core self.now) k }
     {
-        match (self, k) {
-            (Entry::Load { mark: _, address }, 0) => Some(Instruction::Reconcile {
-                address: *address,
-            }),
-            (Entry::Load { mark: _, address }, 1) => Some(Instruction::Loadl { address: *address }),
-            (
-                Entry::Store {
-                    mark: _,
-                    address,
-                    word,
-                },
-                0,
-            ) => Some(Instruction::Storel {
-                address: *address,
-                word: *word,
-            }),
-            (
-                Entry::Store {
-                    mark: _,
-                    address,
-                    word: _,
-                },
-                1,
-            ) => Some(Instruction::Commit { address: *address }),
+        match (*self, k) {
+            (Entry::Load { address, .. }, 0) => Some(Instruction::Reconcile { address }),
+            (Entry::Load { address, .. }, 1) => Some(Instruction::Loadl { address }),
+            (Entry::Store { address, word, .. }, 0) => Some(Instruction::Storel { address, word }),
+            (Entry::Store { address, .. }, 1) => Some(Instruction::Commit { address }),
             _ => None,
         }
     }
 }
 
-fn fence_at<W: Copy>(fences: Fences, k: usize) -> Option<Instruction<W>>
-    ensures { result ≡ nth (fence_rows (rows fences)) k }
+fn fence_at<W: Copy>(fences: &Fences, k: usize) -> Option<Instruction<W>>
+    ensures { result ≡ slice_get (map fence_row (rows fences.now)) k }
 {
-    match fences.get(k) {
-        Some(fence) => Some(fence.instruction()),
-        None => None,
-    }
+    fences.get(k).map(|fence| fence.into())
 }
 
+// Kept: an instruction is made when its place is asked for. A function that fills an `ArrayVec<Instruction<W>, 10>` owes that its size is below 2 ^ 63, and that of a `W` isn't known.
 impl<W: Copy> Translation<W> {
     // How many instructions the entry becomes.
     pub fn count(&self) -> usize
@@ -107,16 +86,55 @@ impl<W: Copy> Translation<W> {
 
     // The instruction at a place of the translation, counted from 0.
     pub fn get(&self, k: usize) -> Option<Instruction<W>>
-        ensures { result ≡ nth (instructions self.now) k }
+        ensures { result ≡ slice_get (instructions self.now) k }
     {
         let before = self.before.count();
         let core = self.entry.core_count();
         if k < before {
-            fence_at(self.before, k)
+            fence_at(&self.before, k)
         } else if k - before < core {
             self.entry.core_at(k - before)
         } else {
-            fence_at(self.after, k - before - core)
+            fence_at(&self.after, k - before - core)
+        }
+    }
+}
+
+// Hands out the instructions of a translation, one after the other.
+#[derive(Clone, Drop)]
+pub struct Instructions<'a, W> {
+    translation: &'a Translation<W>,
+    at: usize,
+}
+
+impl<'a, W: Copy> Iterator for Instructions<'a, W> {
+    type Item = Instruction<W>;
+
+    ghost next_gives = { YieldsFirst left };
+
+    ghost remaining = { item_count left };
+
+    fn next(&mut self) -> Option<Instruction<W>> {
+        let at = self.at;
+        if at >= self.translation.count() {
+            return None;
+        }
+        self.at = at + 1;
+        self.translation.get(at)
+    }
+}
+
+impl<'a, W: Copy> IntoIterator for &'a Translation<W> {
+    type Item = Instruction<W>;
+
+    type IntoIter = Instructions<'a, W>;
+
+    ghost into_iter_gives = { λ translation handed. left handed ≡ instructions translation.now };
+
+    fn into_iter(self) -> Instructions<'a, W> {
+        Instructions {
+            translation: self,
+            at: 0,
         }
     }
 }

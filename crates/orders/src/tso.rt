@@ -41,7 +41,7 @@ impl MemoryOrder for Tso {
     {
         match shape {
             Shape::Access(access) => match access.op {
-                Op::Load => Fences::One(Fence::all_to(FenceKind::Rr, access.address)),
+                Op::Load => Fences::one(Fence::all_to(FenceKind::Rr, access.address)),
                 Op::Store => Fences::two_to(FenceKind::Rw, FenceKind::Ww, access.address),
             },
             Shape::Barrier(mask) => Fences::of_mask(mask),
@@ -51,6 +51,6 @@ impl MemoryOrder for Tso {
     fn after(&self, _shape: Shape) -> Fences
         ensures { rows result ≡ [] }
     {
-        Fences::Zero
+        Fences::none()
     }
 }

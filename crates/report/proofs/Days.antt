@@ -1,14 +1,14 @@
 -- The lines of a day's runs, printed one after another.
-use Rattle.std.proofs.Common.{◌≡◌, ℕ, suc, ◌+◌, Bool, true, false, cond, List, [], ◌∷◌, ◌++◌, Ok, Err, Result, sym, refl, ap, ◌∙◌, subst, add-zero, zero-add, arith}
+use Rattle.std.proofs.Common.{◌≡◌, ℕ, suc, ◌+◌, ◌≤◌, Bool, true, false, cond, is_ok, List, [], ◌∷◌, ◌++◌, Ok, Err, Result, sym, refl, ap, ◌∙◌, subst, arith}
+use mir.Val.{bool_byte}
 use Rattle.std.proofs.lemmas.Bool.{cond-false, cond-true}
 use Rattle.audit.specs.Alone.{verdict_of}
-use Rattle.files.specs.Day.{run_count, run_part, sound_day}
+use Rattle.files.specs.Day.{run_part, sound_day}
 use Rattle.report.specs.declared.heading.Heading.{Heading}
 use Rattle.report.specs.declared.line.Line.{Line}
-use Rattle.report.specs.declared.line.Saying.TheVariants.{Broken, Totals}
 use Rattle.report.specs.declared.text.TextFault.{TextFault}
 use Rattle.report.specs.Printing.{AllPrinted, Printed}
-use Rattle.report.specs.Reports.{day_verdicts, is_ok, ok_count, report_lines, run_line, run_lines, totals_line, verdicts}
+use Rattle.report.specs.Reports.{broken_line, day_verdicts, ok_count, report_lines, run_line, run_lines, totals_line, verdicts}
 use Rattle.report.specs.Texts.{Page}
 use Rattle.report.proofs.Pages.{added_none}
 use Rattle.report.proofs.Prints.{all_printed, cut_off, goes_on, none_left, outcome, stops, stops_among, then_one}
@@ -49,12 +49,6 @@ pub record Underway (bytes : List ℕ) (start page : Page) (k n ok : ℕ) : Type
   pub counts : ok + oks_from bytes k n ≡ ok_count (day_verdicts bytes)
 
 module _ (bytes : List ℕ) (start page : Page) where
-  pub begun : (k : ℕ) → k ≡ run_count bytes → Underway bytes start start k 0 0
-  begun k e = record {
-    prints = ap (λ i. outcome start (lines_from bytes i 0)) e;
-    counts = zero-add _ ∙ ap (λ i. oks_from bytes i 0) e;
-  }
-
   -- a run's line is printed
   pub one_on : (after : Page) (k j n ok more : ℕ) → Underway bytes start page k n ok → k ≡ suc j
       → Printed page (nth_line bytes n) after (Ok (nth_ok bytes n)) → more ≡ ok + cond (nth_ok bytes n) 1 0 → Underway bytes start after j (n + 1) more
@@ -82,21 +76,22 @@ module _ (bytes : List ℕ) (start page : Page) where
       let sum : (x z : ℕ) → x ≡ 0 → ok + x ≡ z → ok ≡ z = λ x z a b. omega arith in
       (all_printed start page _ ok (sym u.prints ∙ ap (outcome page) lines ∙ none_left page), sum _ _ none u.counts)
 
--- how the count of runs that are ok goes on
-pub counted : (ok more : ℕ) (answer verdict : Bool) → answer ≡ verdict → answer ≡ true → more ≡ ok + 1 → more ≡ ok + cond verdict 1 0
-counted ok more answer verdict e t m = m ∙ ap (λ b. ok + cond b 1 0) (sym t ∙ e)
+-- a run adds one to those that are ok, or nothing
+pub counted : (ok one : ℕ) (answer verdict : Bool) → one ≡ bool_byte answer → answer ≡ verdict → ok + one ≡ ok + cond verdict 1 0
+counted ok one true verdict e a = ap (λ n. ok + n) (e ∙ ap (λ b. cond b 1 0) a)
+counted ok one false verdict e a = ap (λ n. ok + n) (e ∙ ap (λ b. cond b 1 0) a)
 
-pub passed_over : (ok more : ℕ) (answer verdict : Bool) → answer ≡ verdict → answer ≡ false → more ≡ ok → more ≡ ok + cond verdict 1 0
-passed_over ok more answer verdict e f m = m ∙ sym (add-zero ok) ∙ ap (λ b. ok + cond b 1 0) (sym f ∙ e)
+pub counted_few : (ok n one : ℕ) (answer : Bool) → one ≡ bool_byte answer → ok ≤ n → ok + one ≤ n + 1
+counted_few ok n one true e h = omega arith
+counted_few ok n one false e h = omega arith
 
 -- the report of a day whose header is broken
-pub broken_report : {X : Type 0} (start after : Page) (heading : Heading) (bytes : List ℕ) (number : ℕ) (r : Result X TextFault)
-    → sound_day bytes ≡ false → number ≡ 15 → Printed start (record { heading = heading; saying = Broken number }) after r → AllPrinted start (report_lines heading bytes) after r
-broken_report {X = X} start after heading bytes number r s e q =
-    let line : ℕ → Line = λ m. record { heading = heading; saying = Broken m } in
-    let lines : line number ∷ [] ≡ report_lines heading bytes = ap (λ m. line m ∷ []) e ∙ sym (cond-false (sound_day bytes) _ _ s) in
+pub broken_report : {X : Type 0} (start page after : Page) (heading : Heading) (bytes : List ℕ) (line : Line) (r : Result X TextFault)
+    → sound_day bytes ≡ false → page ≡ start → line ≡ broken_line heading → Printed page line after r → AllPrinted start (report_lines heading bytes) after r
+broken_report {X = X} start page after heading bytes line r s e l q =
+    let lines : line ∷ [] ≡ report_lines heading bytes = ap (λ x. x ∷ []) l ∙ sym (cond-false (sound_day bytes) _ _ s) in
     let P : List Line → Type 0 = λ ls. AllPrinted {X = X} start ls after r in
-    subst P lines (then_one start start after [] (line number) r (ap (λ o. o.1) (none_left start)) (sym (added_none start)) q)
+    subst P lines (then_one start page after [] line r (ap (λ o. o.1) (none_left start)) (e ∙ sym (added_none start)) q)
 
 -- the lines of the report of a day file whose header is sound; `bytes` are the file, as its reader holds it
 sound_lines : (heading : Heading) (bytes input : List ℕ) → bytes ≡ input → sound_day input ≡ true
@@ -113,12 +108,10 @@ module _ (start after : Page) (heading : Heading) (bytes input : List ℕ) (same
       cut_off (Unit {0}) start after _ fault (ap (outcome start) (sym (sound_lines heading bytes input same sound)) ∙ here ∙ λ i. (sym q.1 i, q.0 i)) q.2
 
   -- all runs' lines are printed, and then the day's
-  pub sound_report : (mid : Page) (top : Heading) (count ok : ℕ) (r : Result (Unit {0}) TextFault) → top ≡ heading → count ≡ run_count bytes → ok ≡ ok_count (day_verdicts bytes)
-      → AllPrinted start (run_lines 0 (day_verdicts bytes)) mid (Ok ok) → Printed mid (record { heading = top; saying = Totals count ok }) after r
-      → AllPrinted start (report_lines heading input) after r
-  sound_report mid top count ok r h e f p q =
+  pub sound_report : (mid page : Page) (ok : ℕ) (line : Line) (r : Result (Unit {0}) TextFault) → page ≡ mid → line ≡ totals_line heading bytes
+      → AllPrinted start (run_lines 0 (day_verdicts bytes)) mid (Ok ok) → Printed page line after r → AllPrinted start (report_lines heading input) after r
+  sound_report mid page ok line r e l p q =
       let runs = run_lines 0 (day_verdicts bytes) in
-      let line : Line = record { heading = top; saying = Totals count ok } in
-      let lines : runs ++ (line ∷ []) ≡ report_lines heading input = (λ i. runs ++ (record { heading = h i; saying = Totals (e i) (f i) } ∷ [])) ∙ sound_lines heading bytes input same sound in
+      let lines : runs ++ (line ∷ []) ≡ report_lines heading input = ap (λ x. runs ++ (x ∷ [])) l ∙ sound_lines heading bytes input same sound in
       let P : List Line → Type 0 = λ ls. AllPrinted {X = Unit {0}} start ls after r in
-      subst P lines (then_one start mid after runs line r p.0 p.1 q)
+      subst P lines (then_one start page after runs line r p.0 (e ∙ p.1) q)

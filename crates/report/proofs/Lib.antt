@@ -1,5 +1,3 @@
-mod Tens
 mod Pages
 mod Prints
 mod Days
-pub mod Rooms

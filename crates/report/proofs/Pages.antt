@@ -1,18 +1,11 @@
 -- What adding to a page comes to.
-use Rattle.std.proofs.Common.{◌≡◌, ℕ, ◌+◌, ◌-◌, ◌≤◌, true, List, [], ◌∷◌, ◌++◌, length, take, drop, sym, refl, ap, ◌∙◌, append_assoc, add-zero, add_assoc, arith, length-append, length-drop, take-append-drop, length-take, length-take-le, drop-drop, take_at, drop_at, leb-true}
-use borrow.Rule.Slice.PartMut.{put_mid}
+use Rattle.std.proofs.Common.{◌≡◌, ℕ, ◌+◌, ◌-◌, ◌≤◌, true, List, [], ◌∷◌, ◌++◌, length, take, drop, sym, ap, ◌∙◌, append_assoc, add-zero, add_assoc, arith, length-append, length-drop, take-append-drop, length-take, length-take-le, drop-drop, take_at, drop_at, leb-true}
 use Rattle.report.specs.Texts.{Page, added}
 use Rattle.report.specs.Printing.{room_of, fits}
 
 -- pages are equal whose tables and lengths are
 same_page : {bs cs : List ℕ} {m n : ℕ} → bs ≡ cs → m ≡ n → ◌≡◌ {A = Page} (record { bytes = bs; len = m }) (record { bytes = cs; len = n })
 same_page p q = λ i. record { bytes = p i; len = q i }
-
--- a part that is copied behind what is written, as the code copies it
-pub added_copied : (bs part held : List ℕ) (at : ℕ) → held ≡ part → ◌≡◌ {A = Page} (record { bytes = put_mid at (at + length part - at) bs held; len = at + length part }) (added (record { bytes = bs; len = at }) part)
-added_copied bs part held at e =
-    let past : at + (at + length part - at) ≡ at + length part = omega arith in
-    same_page (ap (λ l. take at bs ++ l) (λ i. e i ++ (drop-drop (at + length part - at) at bs ∙ ap (λ n. drop n bs) past) i)) refl
 
 -- nothing added
 pub added_none : (p : Page) → added p [] ≡ p

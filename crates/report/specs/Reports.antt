@@ -1,9 +1,8 @@
 -- The report of a day file: its lines.
-use Rattle.std.specs.Prelude.{ℕ, zero, suc, ◌+◌, Bool, true, false, cond, List, [], ◌∷◌, ◌++◌}
+use Rattle.std.specs.Prelude.{ℕ, zero, suc, ◌+◌, cond, List, [], ◌∷◌, ◌++◌, Ok, Err, is_ok}
 use Rattle.audit.specs.Alone.{verdict_of}
 use Rattle.audit.specs.Faults.{file_fault_number, file_fault_layer, file_fault_place}
-use Rattle.audit.specs.declared.verdict.Verdict.{Verdict}
-use Rattle.audit.specs.declared.verdict.Verdict.TheVariants.{Ok, No}
+use Rattle.audit.specs.Audit.{Verdict}
 use Rattle.files.specs.Day.{sound_day, run_count, run_part}
 use Rattle.report.specs.declared.heading.Heading.{Heading}
 use Rattle.report.specs.declared.heading.Heading.TheVariants.{Run}
@@ -14,11 +13,7 @@ use Rattle.report.specs.declared.line.Saying.TheVariants as saying
 -- what a run's line says of its verdict
 abbrev pub saying_of : Verdict → Saying
 saying_of (Ok steps) = saying.Ok steps
-saying_of (No fault) = saying.No (file_fault_number fault) (file_fault_layer fault) (file_fault_place fault)
-
-abbrev pub is_ok : Verdict → Bool
-is_ok (Ok steps) = true
-is_ok (No fault) = false
+saying_of (Err fault) = saying.No (file_fault_number fault) (file_fault_layer fault) (file_fault_place fault)
 
 -- the line of run `n`
 abbrev pub run_line : ℕ → Verdict → Line

@@ -1,9 +1,9 @@
-ghost use Rattle.std.specs.Prelude.{◌≡◌, ◌<◌, ◌≤◌, true, length, is_ok as outcome_is_ok, IfOk, OnErr};
+ghost use Rattle.std.specs.Prelude.{◌≡◌, ◌<◌, ◌≤◌, true, length, is_ok, IfOk, OnErr};
 ghost use Rattle.audit.specs.Alone.{verdict_of};
 ghost use Rattle.files.specs.Day.{sound_day, run_count, run_part};
 ghost use Rattle.report.specs.Lines.{line_bytes};
 ghost use Rattle.report.specs.Printing.{AllPrinted, Printed, Roomy, Stopped, room_of};
-ghost use Rattle.report.specs.Reports.{day_verdicts, is_ok, ok_count, report_lines, run_line, run_lines};
+ghost use Rattle.report.specs.Reports.{day_verdicts, ok_count, report_lines, run_line, run_lines};
 ghost use Rattle.report.specs.Texts.{page_of};
 
 use crate::heading::HeadingRecord;
@@ -13,22 +13,22 @@ use crate::text::{Text, TextFault};
 use files::day::DayFile;
 
 // The line of run `n` of the day; whether the run is ok.
+// Kept: the heading's record and the text side by side, here and below. In one struct of two `&mut`s each function would promise of two
+// references what it now promises of one.
 fn report_nth(
     day: &DayFile<'_>,
     kept: &mut HeadingRecord,
     text: &mut Text<'_>,
     n: usize,
 ) -> Result<bool, TextFault>
-    requires sound { sound_day day.now.bytes.now ≡ true }
-    requires within { n < run_count day.now.bytes.now }
+    requires { n < run_count day.now.bytes.now }
     ensures heading { kept.new.heading ≡ kept.old.heading }
     ensures printed { Printed (page_of text.old) (run_line n (verdict_of (run_part day.now.bytes.now n))) (page_of text.new) result }
     ensures ok { IfOk result (λ ok. ok ≡ is_ok (verdict_of (run_part day.now.bytes.now n))) }
     ensures short { length (line_bytes (run_line n (verdict_of (run_part day.now.bytes.now n)))) ≤ 64 }
     ensures same { text.new.bytes.ghost_name ≡ text.old.bytes.ghost_name }
 {
-    let Some(run) = day.run(n) else { unreachable() };
-    report_run(kept, text, n as u32, run.bytes)
+    report_run(kept, text, n as u32, day.run(n).unwrap().bytes)
 }
 
 // The lines of the day's runs; how many of the runs are ok.
@@ -37,18 +37,16 @@ fn report_runs(
     kept: &mut HeadingRecord,
     text: &mut Text<'_>,
 ) -> Result<u32, TextFault>
-    requires { sound_day day.now.bytes.now ≡ true }
     ensures heading { kept.new.heading ≡ kept.old.heading }
     ensures printed { AllPrinted (page_of text.old) (run_lines 0 (day_verdicts day.now.bytes.now)) (page_of text.new) result }
     ensures ok { IfOk result (λ ok. ok ≡ ok_count (day_verdicts day.now.bytes.now)) }
     ensures room { Roomy 64 (run_count day.now.bytes.now) (page_of text.old) (page_of text.new) result }
     ensures same { text.new.bytes.ghost_name ≡ text.old.bytes.ghost_name }
 {
-    let mut ok: u32 = 0;
+    let mut ok = 0;
+    // Kept: runs by number, as each line tells it; an iterator of runs would be numbered again, and have its own loop over the header.
     for n in 0..day.count() {
-        if report_nth(day, kept, text, n)? {
-            ok += 1;
-        }
+        ok += u32::from(report_nth(day, kept, text, n)?);
     }
     Ok(ok)
 }
@@ -62,31 +60,22 @@ pub fn report_day(
     ensures heading { kept.new.heading ≡ kept.old.heading }
     ensures printed { AllPrinted (page_of text.old) (report_lines kept.old.heading input.now) (page_of text.new) result }
     ensures stops { OnErr result (Stopped (page_of text.old) (report_lines kept.old.heading input.now) (page_of text.new)) }
-    ensures enough { 2112 ≤ room_of (page_of text.old) → outcome_is_ok result ≡ true }
+    ensures enough { 2112 ≤ room_of (page_of text.old) → is_ok result ≡ true }
     ensures same { text.new.bytes.ghost_name ≡ text.old.bytes.ghost_name }
 {
-    match DayFile::open(input) {
-        Err(fault) => {
-            let saying = Saying::Broken {
-                number: fault.number(),
-            };
-            text.print(Line {
-                heading: kept.heading,
-                saying,
-            })
-        }
-        Ok(day) => {
-            let ok = report_runs(&day, kept, text)?;
-            let saying = Saying::Totals {
-                runs: day.count() as u32,
-                ok,
-            };
-            text.print(Line {
-                heading: kept.heading,
-                saying,
-            })
-        }
-    }
+    let saying = match DayFile::open(input) {
+        Err(fault) => Saying::Broken {
+            number: fault.number(),
+        },
+        Ok(day) => Saying::Totals {
+            runs: day.count() as u32,
+            ok: report_runs(&day, kept, text)?,
+        },
+    };
+    text.print(Line {
+        heading: kept.heading,
+        saying,
+    })
 }
 
 #[cfg(test)]

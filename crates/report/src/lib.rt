@@ -2,10 +2,9 @@
 #![tactic(auto)]
 
 pub mod day;
-mod digits;
 pub mod heading;
 pub mod line;
-mod line_buffer;
+mod line_text;
 mod print;
 pub mod runs;
 pub mod text;

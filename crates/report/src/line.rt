@@ -1,7 +1,7 @@
 use crate::heading::Heading;
 
 // What a line says after its heading.
-#[derive(Clone, Copy)]
+#[derive(Clone, Copy, PartialEq, Eq, Debug)]
 pub enum Saying {
     // All of a run's steps are accepted: how many.
     Ok { steps: u32 },
@@ -14,7 +14,7 @@ pub enum Saying {
 }
 
 // A line of the report.
-#[derive(Clone, Copy)]
+#[derive(Clone, Copy, PartialEq, Eq, Debug)]
 pub struct Line {
     pub heading: Heading,
     pub saying: Saying,

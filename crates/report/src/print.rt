@@ -4,7 +4,6 @@ ghost use Rattle.report.specs.Printing.{Printed, room_of};
 ghost use Rattle.report.specs.Texts.{page_of};
 
 use crate::line::Line;
-use crate::line_buffer::LineBuffer;
 use crate::text::{Text, TextFault};
 
 impl<'a> Text<'a> {
@@ -15,8 +14,7 @@ impl<'a> Text<'a> {
         ensures short { length (line_bytes line) ≤ 64 }
         ensures same { self.new.bytes.ghost_name ≡ self.old.bytes.ghost_name }
     {
-        let buffer = LineBuffer::of(line);
-        self.append(buffer.as_bytes())
+        self.append(line.text().as_str().as_bytes())
     }
 }
 

@@ -1,8 +1,8 @@
 ghost use Rattle.audit.specs.Alone.{verdict_of};
-ghost use Rattle.std.specs.Prelude.{◌≡◌, ◌≤◌, length, IfOk};
+ghost use Rattle.std.specs.Prelude.{◌≡◌, ◌≤◌, length, IfOk, is_ok};
 ghost use Rattle.report.specs.Lines.{line_bytes};
 ghost use Rattle.report.specs.Printing.{Printed};
-ghost use Rattle.report.specs.Reports.{is_ok, run_line, saying_of};
+ghost use Rattle.report.specs.Reports.{run_line, saying_of};
 ghost use Rattle.report.specs.Texts.{page_of};
 
 use crate::heading::{HeadingGuard, HeadingRecord};
@@ -12,25 +12,18 @@ use audit::alone::audit_alone;
 use audit::verdict::Verdict;
 
 // What a run's line says of its verdict.
-fn saying_of(verdict: Verdict) -> Saying
-    ensures { result ≡ saying_of verdict }
-{
-    match verdict {
-        Verdict::Ok { steps } => Saying::Ok { steps },
-        Verdict::No(fault) => Saying::No {
-            number: fault.number(),
-            layer: fault.layer(),
-            place: fault.place(),
-        },
-    }
-}
+impl From<Verdict> for Saying {
+    ghost from_gives = { λ verdict saying. saying ≡ saying_of verdict };
 
-fn is_ok(verdict: Verdict) -> bool
-    ensures { result ≡ is_ok verdict }
-{
-    match verdict {
-        Verdict::Ok { .. } => true,
-        Verdict::No(_) => false,
+    fn from(verdict: Verdict) -> Saying {
+        match verdict {
+            Ok(steps) => Saying::Ok { steps },
+            Err(fault) => Saying::No {
+                number: fault.number(),
+                layer: fault.layer(),
+                place: fault.place(),
+            },
+        }
     }
 }
 
@@ -51,7 +44,7 @@ pub fn report_run(
     let verdict = audit_alone(bytes);
     text.print(Line {
         heading: guard.heading(),
-        saying: saying_of(verdict),
+        saying: verdict.into(),
     })?;
-    Ok(is_ok(verdict))
+    Ok(verdict.is_ok())
 }

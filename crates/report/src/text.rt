@@ -1,21 +1,27 @@
-ghost use Rattle.report.specs.Texts.{Appended, empty_page, page_of};
-ghost use Rattle.std.specs.Prelude.{◌≡◌};
+ghost use Rattle.std.specs.Prelude.{◌≡◌, ◌≤◌, length};
+
+use thiserror::Error;
 
 // Why a text takes no more.
-#[derive(Clone, Copy)]
+#[derive(Clone, Copy, PartialEq, Eq, Debug, Error)]
 pub enum TextFault {
     // The table has no room for the next line.
+    #[error("the report does not fit")]
     Full,
 }
 
 // A text in lent bytes, of which the first `len` are written.
+// Kept: a table and a length, since the caller lends the table of a report.
 #[derive(Drop)]
 pub struct Text<'a> {
     bytes: &'a mut [u8],
     len: usize,
+    ghost inside: { len ≤ length bytes.now },
 }
 
 impl<'a> Text<'a> {
+    ghost use Rattle.report.specs.Texts.{Appended, empty_page, page_of};
+
     // A text in which nothing is written yet.
     pub fn new(bytes: &'a mut [u8]) -> Text<'a>
         ensures empty { page_of result ≡ empty_page bytes.old }
@@ -37,12 +43,11 @@ impl<'a> Text<'a> {
         ensures same { self.new.bytes.ghost_name ≡ self.old.bytes.ghost_name }
     {
         let Text { bytes, len } = self;
-        let at = *len;
-        if at > bytes.len() || part.len() > bytes.len() - at {
+        if part.len() > bytes.len() - *len {
             return Err(TextFault::Full);
         }
-        let end = at + part.len();
-        bytes[at..end].copy_from_slice(part);
+        let end = *len + part.len();
+        bytes[*len..end].copy_from_slice(part);
         *len = end;
         Ok(())
     }

@@ -1,14 +1,22 @@
--- The search for the lowest row that binds, one row at a time.
-use Rattle.std.proofs.Common.{◌≡◌, ℕ, ◌+◌, ◌<◌, ◌≤◌, true, false, List, length, get_or, drop, Some, None, add-one, drop_of_length-le, drop-cons}
-use Rattle.run.specs.declared.rows.CodeRow.{CodeRow}
+-- The lowest row that binds is the first that a search finds, and the position that a refusal names.
+use Rattle.std.proofs.Common.{◌≡◌, ℕ, ◌+◌, List, [], ◌∷◌, refl, sym, ◌∙◌}
+use Rattle.std.specs.List.{position, position_from}
+use Rattle.std.proofs.lemmas.Iterator.Adapters.{position_from-zero}
+use Rattle.std.proofs.lemmas.List.Quantifiers.{position-Some}
 use Rattle.crf.specs.declared.instruction.Instruction.{Instruction}
+use Rattle.run.specs.declared.rows.CodeRow.{CodeRow}
+use Rattle.run.specs.Laws.{NamesLowest}
+use Rattle.run.specs.Rows.{no_row}
 use Rattle.run.specs.Steps.{bound, binder}
 
-pub binder_here : {W : Type 0} (rs : List (CodeRow W)) (j : Instruction W) (i : ℕ) (r : CodeRow W) → i < length rs → r ≡ get_or rs i r → bound r j ≡ true → binder (drop i rs) j i ≡ Some i
-binder_here rs j i r h e b = rw (drop-cons rs i r h, ← e, b)
+binder_from : {W : Type 0} (rs : List (CodeRow W)) (later : Instruction W) (n : ℕ) → binder rs later n ≡ position_from (λ r. bound r later) n rs
+binder_from [] later n = refl
+binder_from (r ∷ rs) later n = rw (binder_from rs later (n + 1))
 
-pub binder_next : {W : Type 0} (rs : List (CodeRow W)) (j : Instruction W) (i : ℕ) (r : CodeRow W) → i < length rs → r ≡ get_or rs i r → bound r j ≡ false → binder (drop i rs) j i ≡ binder (drop (i + 1) rs) j (i + 1)
-binder_next rs j i r h e b = rw (drop-cons rs i r h, ← e, b, add-one)
+pub binder_is : {W : Type 0} (rs : List (CodeRow W)) (later : Instruction W) → position (λ r. bound r later) rs ≡ binder rs later 0
+binder_is rs later = position_from-zero (λ r. bound r later) rs ∙ sym (binder_from rs later 0)
 
-pub binder_end : {W : Type 0} (rs : List (CodeRow W)) (j : Instruction W) (i : ℕ) → length rs ≤ i → binder (drop i rs) j i ≡ None
-binder_end rs j i h = rw (drop_of_length-le rs h)
+pub names_lowest : (W : Type 0) → NamesLowest W
+names_lowest W rows later p h =
+    let f = position-Some (λ r. bound r later) rows p no_row (binder_is rows later ∙ h) in
+    record { inside = f.0; binds = f.1; lowest = f.2 }

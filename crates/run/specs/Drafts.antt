@@ -91,7 +91,7 @@ inside size (Loadl a) = nat_lt a size
 inside size (Storel a w) = nat_lt a size
 inside size (Commit a) = nat_lt a size
 inside size (Reconcile a) = nat_lt a size
-inside size (Fence k a b c d) = true
+inside size (Fence k f s) = true
 
 -- may the raw instruction go into the card's program
 abbrev pub raw_placed : {W : Type 0} → ℕ → CardRecord → Instruction W → Result CardRecord ProgramFault

@@ -1,5 +1,5 @@
 -- Rows of the tables.
-use Rattle.std.specs.Prelude.{ℕ, ◌+◌, ◌-◌, min, true, false, List, [], ◌∷◌, ◌++◌, drop, replicate, Some, None, Option, slice_set}
+use Rattle.std.specs.Prelude.{ℕ, ◌+◌, ◌-◌, min, true, false, List, [], ◌∷◌, ◌++◌, drop, replicate, slice_set}
 use Rattle.crf.specs.declared.instruction.Instruction.{Instruction}
 use Rattle.crf.specs.declared.instruction.Instruction.TheVariants.{Commit}
 use Rattle.run.specs.declared.rows.Cell.{Cell}
@@ -33,11 +33,6 @@ filled n row rows = replicate n row ++ drop n rows
 abbrev pub laid : {X : Type 0} → List X → ℕ → List X → List X
 laid xs at [] = xs
 laid xs at (r ∷ rs) = laid (slice_set xs at r) (at + 1) rs
-
--- one row put at a place, if there is one to put
-abbrev pub laid_one : {W : Type 0} → List (CodeRow W) → ℕ → ℕ → Option (Instruction W) → List (CodeRow W)
-laid_one code at n None = code
-laid_one code at n (Some i) = slice_set code at (pending_row n i)
 
 -- one pending instruction fewer
 abbrev pub spent : CardRecord → CardRecord

@@ -88,7 +88,7 @@ address_of (Loadl a) = a
 address_of (Storel a w) = a
 address_of (Commit a) = a
 address_of (Reconcile a) = a
-address_of (Fence k l1 h1 l2 h2) = 0
+address_of (Fence k f s) = 0
 
 -- a card's cell of an address; one that is not below the size has none
 abbrev pub cell_at : {W : Type 0} → List (Cell W) → ℕ → ℕ → ℕ → Cell W
@@ -108,7 +108,7 @@ acted (Commit a) (Dirty w) = Err CellUnfit
 acted (Reconcile a) Absent = Ok Passes
 acted (Reconcile a) (Clean w) = Err CellUnfit
 acted (Reconcile a) (Dirty w) = Ok Passes
-acted (Fence k l1 h1 l2 h2) c = Ok Passes
+acted (Fence k f s) c = Ok Passes
 
 -- a recorded word, if there is one, is the word loaded
 abbrev pub agreed : {W : Type 0} → (W → W → Bool) → Option W → Effect W → Result (Unit {0}) StepFault
@@ -122,17 +122,24 @@ abbrev pub room_in : ℕ → ℕ → Result (Unit {0}) StepFault
 room_in used rows = pass (nat_lt used (min rows 4096)) StepsFull
 
 -- what performing the row would do
-abbrev pub planned : {W : Type 0} → (W → W → Bool) → CodeRow W → Cell W → Option W → ℕ → ℕ → Result (Plan W) StepFault
-planned alike row cell recorded used rows =
+abbrev pub plan_of : {W : Type 0} → (W → W → Bool) → CodeRow W → Cell W → Option W → Result (Plan W) StepFault
+plan_of alike row cell recorded =
     and_then (acted row.instruction cell) (λ effect.
     and_then (agreed alike recorded effect) (λ _.
-    and_then (room_in used rows) (λ _.
-    Ok (record { row = row; effect = effect }))))
+    Ok (record { row = row; effect = effect })))
 
+-- what performing at a position would do
+abbrev pub weighed : {W : Type 0} → (W → W → Bool) → World W → ℕ → ℕ → Option W → Result (Plan W) StepFault
+weighed alike w card position recorded =
+    and_then (chosen w card position) (λ row.
+    plan_of alike row (cell_at w.cells (length w.memory) card (address_of row.instruction)) recorded)
+
+-- the same, if the step list has room
 abbrev pub decided : {W : Type 0} → (W → W → Bool) → World W → ℕ → ℕ → Option W → Result (Plan W) StepFault
 decided alike w card position recorded =
-    and_then (chosen w card position) (λ row.
-    planned alike row (cell_at w.cells (length w.memory) card (address_of row.instruction)) recorded w.used (length w.steps))
+    and_then (weighed alike w card position recorded) (λ plan.
+    and_then (room_in w.used (length w.steps)) (λ _.
+    Ok plan))
 
 -- the word that performing answers: that of a Loadl
 abbrev pub answered : {W : Type 0} → Effect W → Option W

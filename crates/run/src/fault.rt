@@ -8,14 +8,14 @@ use memory::fault::MemoryFault;
 use orders::translation::TranslationFault;
 
 // Opening a draft, or starting it.
-#[derive(Clone, Copy)]
+#[derive(Clone, Copy, PartialEq, Eq, Debug)]
 pub enum LifeFault {
     TooShort,
     OutOfBounds,
 }
 
 // Adding an entry or a raw instruction.
-#[derive(Clone, Copy)]
+#[derive(Clone, Copy, PartialEq, Eq, Debug)]
 pub enum ProgramFault {
     TooShort,
     NoSuchCard,
@@ -25,7 +25,7 @@ pub enum ProgramFault {
 }
 
 // A step. A bound instruction's refusal names the lowest pending position that binds it.
-#[derive(Clone, Copy)]
+#[derive(Clone, Copy, PartialEq, Eq, Debug)]
 pub enum StepFault {
     TooShort,
     NoSuchCard,
@@ -40,7 +40,7 @@ pub enum StepFault {
 }
 
 impl LifeFault {
-    // The refusal's number.
+    // The refusal's number. Kept: a fault has a number, and audit adds a layer and a place; a `From` for `u32` would not say which.
     pub fn number(&self) -> u32
         ensures { result ≡ life_fault_number self.now }
     {
@@ -52,7 +52,7 @@ impl LifeFault {
 }
 
 impl ProgramFault {
-    // The refusal's number.
+    // The refusal's number. Kept: a fault has a number, and audit adds a layer and a place; a `From` for `u32` would not say which.
     pub fn number(&self) -> u32
         ensures { result ≡ program_fault_number self.now }
     {
@@ -67,7 +67,7 @@ impl ProgramFault {
 }
 
 impl StepFault {
-    // The refusal's number.
+    // The refusal's number. Kept: a fault has a number, and audit adds a layer and a place; a `From` for `u32` would not say which.
     pub fn number(&self) -> u32
         ensures { result ≡ step_fault_number self.now }
     {

@@ -11,4 +11,3 @@ pub mod life;
 mod performing;
 pub mod rows;
 pub mod states;
-mod tables;

@@ -1,199 +1,155 @@
 // Performing an instruction, without and with a recorded word.
-ghost use Rattle.std.specs.Prelude.{◌≡◌, ◌+◌, ◌*◌, ◌<◌, ◌≤◌, length, Some, None, OnOk};
-ghost use Rattle.run.specs.Runs.{world_of};
-ghost use Rattle.run.specs.Steps.{card_known, chosen, decided, applied, performed, answered, step_of, cells_after};
+ghost use Rattle.std.specs.Prelude.{◌≡◌, ◌+◌, ◌*◌, ◌<◌, ◌≤◌, length, Some, None, OnOk, slice_set};
+ghost use Rattle.run.specs.Runs.{SameTables, world_of};
+ghost use Rattle.run.specs.Steps.{card_known, weighed, performed, cell_in, room_in};
 
 use crate::checks::*;
 use crate::fault::StepFault;
 use crate::rows::*;
 use crate::states::Running;
-use crate::tables::{put, spend_at};
 use memory::interface::Memory;
 use memory::word::Word;
 
-fn answer<W: Word>(effect: Effect<W>) -> Option<W>
-    ensures { result ≡ answered effect }
-{
-    match effect {
-        Effect::Loads(word) => Some(word),
-        _ => None,
-    }
-}
-
-fn step_row<W: Word>(card: u32, position: u32, effect: Effect<W>) -> StepRow<W>
-    ensures { result ≡ step_of card position effect }
-{
-    match effect {
-        Effect::Loads(word) => StepRow::Loaded {
-            card,
-            position,
-            word,
-        },
-        _ => StepRow::Performed { card, position },
-    }
-}
-
-fn change_cell<W: Word>(cells: &mut [Cell<W>], at: usize, effect: Effect<W>)
-    ensures { cells.new ≡ cells_after cells.old at effect }
-{
-    if let Effect::Stores(word) = effect {
-        put(cells, at, Cell::Dirty(word));
-    }
-}
-
-impl<W: Word, M: Memory<Word = W>> Running<W, M> {
+impl<W: Word, M: Memory<Word = W>> Running<M> {
     // The card's record, if the tables can hold the run and there is such a card.
+    // Kept: a card is its number. Places are counted in `usize`, where they can't wrap, so no bound on the number is handed on;
+    // a struct of a card and an address, or a position, would be taken apart at each use.
     pub(crate) fn known_card(
         &self,
-        cards: &[CardRecord],
-        code: &[CodeRow<W>],
-        cells: &[Cell<W>],
-        steps: &[StepRow<W>],
+        tables: &Tables<'_, W>,
         card: u32,
     ) -> Result<CardRecord, StepFault>
-        ensures is { result ≡ card_known (world_of M.meaning self.now cards.now code.now cells.now steps.now) card }
-        ensures known { OnOk result ((card < 8) × (256 * (card + 1) ≤ length code.now)) }
+        ensures is { result ≡ card_known (world_of M.meaning self.now tables.now) card }
+        ensures known { OnOk result ((card < length tables.now.cards.now) × (256 * (card + 1) ≤ length tables.now.code.now)) }
     {
-        let _ = steps;
-        match fits(
-            self.count,
-            self.memory.size(),
-            cards.len(),
-            code.len(),
-            cells.len(),
-        ) {
-            Err(why) => Err(why),
-            Ok(()) => card_record(cards, self.count, card),
+        let count = self.count as usize;
+        let places = count * self.memory.size() as usize;
+        if tables.cards.len() < count
+            || tables.code.len() < 256 * count
+            || tables.cells.len() < places
+        {
+            return Err(StepFault::TooShort);
         }
+        if card >= self.count {
+            return Err(StepFault::NoSuchCard);
+        }
+        Ok(tables.cards[card as usize])
     }
 
-    fn choose(
+    // The place of a card's cell of an address.
+    pub(crate) fn place(&self, card: u32, address: u32) -> usize
+        ensures { result ≡ card * length (M.meaning self.now.memory) + address }
+    {
+        card as usize * self.memory.size() as usize + address as usize
+    }
+
+    // The cell of a card's address, if there is one.
+    pub(crate) fn cell(
         &self,
-        cards: &[CardRecord],
-        code: &[CodeRow<W>],
-        cells: &[Cell<W>],
-        steps: &[StepRow<W>],
+        tables: &Tables<'_, W>,
         card: u32,
-        position: u32,
-    ) -> Result<CodeRow<W>, StepFault>
-        ensures is { result ≡ chosen (world_of M.meaning self.now cards.now code.now cells.now steps.now) card position }
-        ensures known { OnOk result ((card < 8) × (position < 256)) }
+        address: u32,
+    ) -> Result<Cell<W>, StepFault>
+        ensures is { result ≡ cell_in tables.now.cells.now (length (M.meaning self.now.memory)) card address }
+        ensures known { OnOk result (address < length (M.meaning self.now.memory)) }
     {
-        match self.known_card(cards, code, cells, steps, card) {
-            Err(why) => Err(why),
-            Ok(held) => ready_row(code, held, card, position),
+        if address >= self.memory.size() {
+            return Err(StepFault::NoSuchAddress);
+        }
+        let cell = tables.cells.get(self.place(card, address)).copied();
+        Ok(cell.unwrap_or(Cell::Absent))
+    }
+
+    // The step list has a row for one more step.
+    pub(crate) fn room(&self, tables: &Tables<'_, W>) -> Result<(), StepFault>
+        ensures is { result ≡ room_in self.now.used (length tables.now.steps.now) }
+        ensures known { OnOk result (self.now.used < 4096) }
+    {
+        if (self.used as usize) < tables.steps.len().min(4096) {
+            Ok(())
+        } else {
+            Err(StepFault::StepsFull)
         }
     }
 
+    // Puts a row into the step list.
+    pub(crate) fn note(&mut self, steps: &mut [StepRow<W>], row: StepRow<W>)
+        requires { self.old.used < 4096 }
+        ensures steps { steps.new ≡ slice_set steps.old self.old.used row }
+        ensures used { self.new.used ≡ self.old.used + 1 }
+        ensures count { self.new.count ≡ self.old.count }
+        ensures raw { self.new.raw ≡ self.old.raw }
+        ensures memory { self.new.memory ≡ self.old.memory }
+    {
+        put(steps, self.used as usize, row);
+        self.used += 1;
+    }
+
+    // What performing an instruction would do. Whether the step list has room is asked afterwards.
     fn decide(
         &self,
-        cards: &[CardRecord],
-        code: &[CodeRow<W>],
-        cells: &[Cell<W>],
-        steps: &[StepRow<W>],
+        tables: &Tables<'_, W>,
         card: u32,
         position: u32,
         recorded: Option<W>,
     ) -> Result<Plan<W>, StepFault>
-        ensures is { result ≡ decided W.alike (world_of M.meaning self.now cards.now code.now cells.now steps.now) card position recorded }
-        ensures known { OnOk result ((card < 8) × (position < 256) × (self.now.used < 4096)) }
+        ensures is { result ≡ weighed W.eq (world_of M.meaning self.now tables.now) card position recorded }
+        ensures known { OnOk result (card < length tables.now.cards.now) }
     {
-        match self.choose(cards, code, cells, steps, card, position) {
-            Err(why) => Err(why),
-            Ok(row) => {
-                let cell = cell_at(cells, self.memory.size(), card, address_of(row.instruction));
-                plan_of(row, cell, recorded, self.used, steps.len())
-            }
-        }
-    }
-
-    fn apply(
-        &mut self,
-        cards: &mut [CardRecord],
-        code: &mut [CodeRow<W>],
-        cells: &mut [Cell<W>],
-        steps: &mut [StepRow<W>],
-        card: u32,
-        position: u32,
-        plan: Plan<W>,
-    )
-        requires { (card < 8) × ((position < 256) × (self.old.used < 4096)) }
-        ensures world { world_of M.meaning self.new cards.new code.new cells.new steps.new ≡ applied (world_of M.meaning self.old cards.old code.old cells.old steps.old) card position plan }
-        ensures same { self.new.memory ≡ self.old.memory }
-    {
-        let row = plan.row;
-        let at = card as usize * self.memory.size() as usize + address_of(row.instruction) as usize;
-        spend_at(cards, card as usize);
-        put(
-            code,
-            256 * card as usize + position as usize,
-            CodeRow {
-                instruction: row.instruction,
-                entry: row.entry,
-                performed: true,
-            },
-        );
-        change_cell(cells, at, plan.effect);
-        put(
-            steps,
-            self.used as usize,
-            step_row(card, position, plan.effect),
-        );
-        self.used += 1;
+        let held = self.known_card(tables, card)?;
+        let row = ready_row(tables, held, card, position)?;
+        let cell = self.cell(tables, card, row.address());
+        let effect = Effect::of(&row.instruction, cell.unwrap_or(Cell::Absent))?;
+        effect.agrees(recorded)?;
+        Ok(Plan { row, effect })
     }
 
     fn perform_if(
         &mut self,
-        cards: &mut [CardRecord],
-        code: &mut [CodeRow<W>],
-        cells: &mut [Cell<W>],
-        steps: &mut [StepRow<W>],
+        tables: &mut Tables<'_, W>,
         card: u32,
         position: u32,
         recorded: Option<W>,
     ) -> Result<Option<W>, StepFault>
-        ensures world { record { answer = result; after = world_of M.meaning self.new cards.new code.new cells.new steps.new } ≡ performed W.alike (world_of M.meaning self.old cards.old code.old cells.old steps.old) card position recorded }
+        ensures world { record { answer = result; after = world_of M.meaning self.new tables.new } ≡ performed W.eq (world_of M.meaning self.old tables.old) card position recorded }
         ensures same { self.new.memory ≡ self.old.memory }
+        ensures tables { SameTables tables.old tables.new }
     {
-        match self.decide(cards, code, cells, steps, card, position, recorded) {
-            Err(why) => Err(why),
-            Ok(plan) => {
-                self.apply(cards, code, cells, steps, card, position, plan);
-                Ok(answer(plan.effect))
-            }
-        }
+        let Plan { row, effect } = self.decide(tables, card, position, recorded)?;
+        self.room(tables)?;
+        tables.cards[card as usize].spend();
+        effect.change(tables.cells, self.place(card, row.address()));
+        put(tables.code, code_place(card, position), row.done());
+        self.note(tables.steps, effect.step_row(card, position));
+        Ok(effect.answer())
     }
 
     // Performs an instruction of a card; a Loadl answers its word.
     pub fn perform(
         &mut self,
-        cards: &mut [CardRecord],
-        code: &mut [CodeRow<W>],
-        cells: &mut [Cell<W>],
-        steps: &mut [StepRow<W>],
+        tables: &mut Tables<'_, W>,
         card: u32,
         position: u32,
     ) -> Result<Option<W>, StepFault>
-        ensures world { record { answer = result; after = world_of M.meaning self.new cards.new code.new cells.new steps.new } ≡ performed W.alike (world_of M.meaning self.old cards.old code.old cells.old steps.old) card position None }
+        ensures world { record { answer = result; after = world_of M.meaning self.new tables.new } ≡ performed W.eq (world_of M.meaning self.old tables.old) card position None }
         ensures same { self.new.memory ≡ self.old.memory }
+        ensures tables { SameTables tables.old tables.new }
     {
-        self.perform_if(cards, code, cells, steps, card, position, None)
+        self.perform_if(tables, card, position, None)
     }
 
     // Performs a Loadl of a card, if it loads the recorded word.
     pub fn perform_recorded(
         &mut self,
-        cards: &mut [CardRecord],
-        code: &mut [CodeRow<W>],
-        cells: &mut [Cell<W>],
-        steps: &mut [StepRow<W>],
+        tables: &mut Tables<'_, W>,
         card: u32,
         position: u32,
         recorded: W,
     ) -> Result<Option<W>, StepFault>
-        ensures world { record { answer = result; after = world_of M.meaning self.new cards.new code.new cells.new steps.new } ≡ performed W.alike (world_of M.meaning self.old cards.old code.old cells.old steps.old) card position (Some recorded) }
+        ensures world { record { answer = result; after = world_of M.meaning self.new tables.new } ≡ performed W.eq (world_of M.meaning self.old tables.old) card position (Some recorded) }
         ensures same { self.new.memory ≡ self.old.memory }
+        ensures tables { SameTables tables.old tables.new }
     {
-        self.perform_if(cards, code, cells, steps, card, position, Some(recorded))
+        self.perform_if(tables, card, position, Some(recorded))
     }
 }

@@ -1,19 +1,16 @@
 // Prints, for each day file of the folder that it is run in, the file's name and its report.
 #![tactic(auto)]
 
-use anyhow::anyhow;
 use report::whole::{REPORT_BYTES, day_text};
 use std::fs;
 use std::io::Write;
 
 fn print_report(rt: &HostRuntime, name: &str) -> anyhow::Result<()> {
     let input = fs::read(rt, name)?;
-    let mut table = [0u8; REPORT_BYTES];
-    let Ok(len) = day_text(input.as_slice(), &mut table) else {
-        return Err(anyhow!("the report does not fit"));
-    };
+    let mut table = [0; REPORT_BYTES];
+    let len = day_text(&input, &mut table)?;
     println!(rt; "{name}")?;
-    rt.stdout().write_all(&table[0..len.min(REPORT_BYTES)])?;
+    rt.stdout().write_all(&table[..len])?;
     Ok(())
 }
 
@@ -25,8 +22,8 @@ fn main(rt: HostRuntime) -> anyhow::Result<()> {
         names.push(String::from_str(heap, entry.file_name())?)?;
     }
     names.sort()?;
-    for name in names.iter() {
-        print_report(&rt, name.as_str())?;
+    for name in &names {
+        print_report(&rt, name)?;
     }
     Ok(())
 }

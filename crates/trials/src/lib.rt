@@ -1,65 +1,34 @@
 // Tests of the bounds, worked through the public calls over tables of their own.
 #![tactic(auto)]
 
-use crf::instruction::Instruction;
 use crf::span::Span;
 use memory::interface::Memory;
 use memory::word_table::WordTable;
 use orders::chosen::AnyOrder;
 use orders::entries::{Entry, Mark, Shape};
 use orders::order::MemoryOrder;
-use run::life::{Unopened, Unstarted};
-use run::rows::{CardRecord, Cell, CodeRow, StepRow};
+use run::rows::{CardRecord, Cell, CodeRow, StepRow, Tables};
 use run::states::{Draft, Running};
-
-const NO_CARD: CardRecord = CardRecord {
-    entries: 0,
-    length: 0,
-    pending: 0,
-};
-
-const NO_ROW: CodeRow<u32> = CodeRow {
-    instruction: Instruction::Commit { address: 0 },
-    entry: 0,
-    performed: true,
-};
 
 // What opening a draft of that many cards over 8 records answers: 0, or the refusal's number.
 fn opening<M: Memory<Word = u32> + Drop>(memory: M, count: u32) -> u32 {
-    let mut cards = [NO_CARD; 8];
-    match Draft::open(memory, AnyOrder::Sc, count, &mut cards) {
-        Ok(draft) => {
-            let _ = draft.into_memory();
-            0
-        }
-        Err(
-            Unopened {
-                memory: _,
-                order: _,
-                why,
-            },
-        ) => why.number(),
-    }
+    let mut cards = [CardRecord::EMPTY; 8];
+    let opened = Draft::open(memory, AnyOrder::Sc, count, &mut cards);
+    opened.err().map_or(0, |refused| refused.why.number())
 }
 
 // What the last of that many loads on one card answers.
 fn last_entry<M: Memory<Word = u32> + Drop>(memory: M, order: AnyOrder, tries: u32) -> u32 {
-    let mut cards = [NO_CARD; 1];
-    let mut code = [NO_ROW; 256];
+    let mut cards = [CardRecord::EMPTY; 1];
+    let mut code = [CodeRow::empty(); 256];
     match Draft::open(memory, order, 1, &mut cards) {
         Ok(draft) => last_load(draft, &mut cards, &mut code, tries),
-        Err(
-            Unopened {
-                memory: _,
-                order: _,
-                why,
-            },
-        ) => why.number(),
+        Err(refused) => refused.why.number(),
     }
 }
 
 fn last_load<M: Memory<Word = u32> + Drop>(
-    mut draft: Draft<u32, M, AnyOrder>,
+    mut draft: Draft<M, AnyOrder>,
     cards: &mut [CardRecord],
     code: &mut [CodeRow<u32>],
     tries: u32,
@@ -70,10 +39,8 @@ fn last_load<M: Memory<Word = u32> + Drop>(
             mark: Mark::Plain,
             address: 0,
         };
-        answer = match draft.add(cards, code, 0, load) {
-            Ok(()) => 0,
-            Err(why) => why.number(),
-        };
+        let added = draft.add(cards, code, 0, load);
+        answer = added.err().map_or(0, |why| why.number());
     }
     let _ = draft.into_memory();
     answer
@@ -81,47 +48,40 @@ fn last_load<M: Memory<Word = u32> + Drop>(
 
 // What the last of that many steps answers: caching and purging one cell in turn, with a step list of 5,000 rows.
 fn last_step<M: Memory<Word = u32> + Drop>(memory: M, tries: u32) -> u32 {
-    let mut cards = [NO_CARD; 1];
-    let mut code = [NO_ROW; 256];
-    let mut cells: [Cell<u32>; 1] = [Cell::Absent; 1];
-    let mut steps: [StepRow<u32>; 5000] = [StepRow::Unused; 5000];
+    let mut cards = [CardRecord::EMPTY; 1];
+    let mut code = [CodeRow::empty(); 256];
+    let mut cells = [Cell::Absent; 1];
+    let mut steps = [StepRow::Unused; 5000];
     match Draft::open(memory, AnyOrder::Sc, 1, &mut cards) {
         Ok(draft) => match draft.start(&mut cells) {
-            Ok(run) => last_background(run, &mut cards, &mut code, &mut cells, &mut steps, tries),
-            Err(Unstarted { draft, why }) => {
-                let _ = draft.into_memory();
-                why.number()
+            Ok(run) => {
+                let mut tables = Tables {
+                    cards: &mut cards,
+                    code: &mut code,
+                    cells: &mut cells,
+                    steps: &mut steps,
+                };
+                last_background(run, &mut tables, tries)
             }
+            Err(refused) => refused.why.number(),
         },
-        Err(
-            Unopened {
-                memory: _,
-                order: _,
-                why,
-            },
-        ) => why.number(),
+        Err(refused) => refused.why.number(),
     }
 }
 
 fn last_background<M: Memory<Word = u32> + Drop>(
-    mut run: Running<u32, M>,
-    cards: &mut [CardRecord],
-    code: &mut [CodeRow<u32>],
-    cells: &mut [Cell<u32>],
-    steps: &mut [StepRow<u32>],
+    mut run: Running<M>,
+    tables: &mut Tables<'_, u32>,
     tries: u32,
 ) -> u32 {
     let mut answer = 0;
     for k in 0..tries {
         let stepped = if k % 2 == 0 {
-            run.cache(cards, code, cells, steps, 0, 0)
+            run.cache(tables, 0, 0)
         } else {
-            run.purge(cards, code, cells, steps, 0, 0)
+            run.purge(tables, 0, 0)
         };
-        answer = match stepped {
-            Ok(()) => 0,
-            Err(why) => why.number(),
-        };
+        answer = stepped.err().map_or(0, |why| why.number());
     }
     let _ = run.close().into_memory();
     answer
@@ -131,11 +91,11 @@ fn last_background<M: Memory<Word = u32> + Drop>(
 fn masks_taken(order: AnyOrder) -> (u32, u32) {
     let mut taken: u32 = 0;
     let mut fences: u32 = 0;
-    for mask in 0..256u32 {
-        let shape = Shape::Barrier((mask % 256) as u8);
+    for mask in 0..=u8::MAX {
+        let shape = Shape::Barrier(mask);
         if order.takes(shape) {
-            taken = taken.wrapping_add(1);
-            fences = fences.wrapping_add(order.before(shape).count() as u32);
+            taken = taken.saturating_add(1);
+            fences = fences.saturating_add(order.before(shape).count() as u32);
         }
     }
     (taken, fences)

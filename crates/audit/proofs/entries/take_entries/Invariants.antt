@@ -9,5 +9,7 @@ abbrev pub invariant-loop-n : goal.invariant-loop-n
 invariant-loop-n g l =
     let words = g.M.Memory.meaning in
     let one = entry_one l.initial.draft.order l.file.entries.now in
-    (worked one (l.count - l.n) l.n (draft_of words l.draft l.cards l.code) ≡ worked one l.count 0 (draft_of words l.initial.draft l.initial.cards l.initial.code))
-    × (l.draft ≡ l.initial.draft)
+    let count = l.file.header.entries in record {
+      left : worked one (count - l.n-counter) l.n-counter (draft_of words l.draft l.cards l.code) ≡ worked one count 0 (draft_of words l.initial.draft l.initial.cards l.initial.code);
+      same : l.draft ≡ l.initial.draft;
+    }

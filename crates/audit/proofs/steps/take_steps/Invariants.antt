@@ -1,5 +1,5 @@
 use Rattle.std.proofs.Common.{◌≡◌, ◌-◌}
-use Rattle.run.specs.Runs.{world_of}
+use Rattle.run.specs.Runs.{SameTables, world_of}
 use Rattle.audit.specs.Records.{step_one}
 use Rattle.audit.specs.Turns.{worked}
 use Rattle.audit.proofs.steps.take_steps.Given as goal
@@ -9,5 +9,7 @@ abbrev pub invariant-loop-n : goal.invariant-loop-n
 invariant-loop-n g l =
     let words = g.M.Memory.meaning in
     let one = step_one l.file.steps.now in
-    worked one (l.count - l.n) l.n (world_of words l.run l.cards l.code l.cells l.steps)
-    ≡ worked one l.count 0 (world_of words l.initial.run l.initial.cards l.initial.code l.initial.cells l.initial.steps)
+    let count = l.file.header.steps in record {
+      left : worked one (count - l.n-counter) l.n-counter (world_of words l.run l.tables) ≡ worked one count 0 (world_of words l.initial.run l.initial.tables);
+      same : SameTables l.initial.tables l.tables;
+    }

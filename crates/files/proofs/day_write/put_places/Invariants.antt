@@ -5,8 +5,8 @@ use Rattle.files.specs.Encoding.{number_bytes}
 use Rattle.files.specs.Writing.{written_at}
 use Rattle.files.proofs.day_write.put_places.Given as goal
 
-abbrev pub invariant-loop-n : goal.invariant-loop-n
-invariant-loop-n l =
-    (l.next ≡ l.at + 8 * l.n)
-    × (l.start ≡ header_end (map (λ x. x.now) l.runs) + length (run_bytes (take l.n (map (λ x. x.now) l.runs))))
-    × (l.out ≡ written_at l.initial.out l.at (flat_map number_bytes (run_places (header_end (map (λ x. x.now) l.runs)) (take l.n (map (λ x. x.now) l.runs)))))
+abbrev pub invariant-loop-run : goal.invariant-loop-run
+invariant-loop-run l =
+    (l.next ≡ l.at + 8 * l.run-index)
+    × (l.start ≡ header_end (map (λ x. x.now) l.runs) + length (run_bytes (take l.run-index (map (λ x. x.now) l.runs))))
+    × (l.out ≡ written_at l.initial.out l.at (flat_map number_bytes (run_places (header_end (map (λ x. x.now) l.runs)) (take l.run-index (map (λ x. x.now) l.runs)))))

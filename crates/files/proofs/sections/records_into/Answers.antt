@@ -1,11 +1,8 @@
-use Rattle.std.proofs.Common.{◌≡◌, ℕ, get_or, set, ap, ◌∙◌, arith}
-use Rattle.memory.proofs.Tables.{laid_none, laid_more, laid_all}
+use Rattle.std.proofs.Common.{◌≡◌, get_or, set, ap, ◌∙◌, arith}
+use Rattle.memory.proofs.Tables.{laid_more, laid_all}
 use Rattle.files.proofs.Turns.{records_length, record_read}
 use Rattle.files.proofs.sections.records_into.Goals as goal
 use Rattle.files.proofs.sections.records_into.Goals.{in-Ok, in_default}
-
-pub loop-n-init : goal.loop-n-init
-loop-n-init g c xs e = laid_none xs c.args.rows.now
 
 pub loop-n-preserved : goal.loop-n-preserved
 loop-n-preserved g c xs e =
@@ -18,7 +15,7 @@ loop-n-preserved g c xs e =
           let here : w.in-Ok.record ≡ get_or xs n w.in-Ok.record = cc in
           w.rows-is ∙ ap (λ rows. set rows n w.in-Ok.record) (c.loop-n.invariant xs e)
           ∙ laid_more xs c.args.rows.now n w.in-Ok.record (omega arith) (omega arith) here
-      | in_default w ↦ let z : ◌≡◌ {A = ℕ} 0 1 = cc in absurd (omega arith)
+      | in_default w ↦ cc
     ]
 
 pub returns : goal.returns

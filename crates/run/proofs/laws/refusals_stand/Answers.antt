@@ -1,5 +1,5 @@
-use Rattle.run.proofs.Refusals.{refused_steps, refused_additions, names_lowest}
+use Rattle.run.proofs.Binders.{names_lowest}
 use Rattle.run.proofs.laws.refusals_stand.Goals as goal
 
-pub returns : goal.returns
-returns g c = record { steps = refused_steps _; additions = refused_additions _; bound = names_lowest _ }
+pub returns-clause-bound : goal.returns-clause-bound
+returns-clause-bound g c = names_lowest _

@@ -1,10 +1,10 @@
 use Rattle.std.proofs.Common.{rules}
-use Rattle.memory.proofs.Meaning.{read_out}
+use Rattle.memory.proofs.Meaning.{read_refused}
 use Rattle.layers.proofs.BufferLaws.{held_read, other_read}
 use Rattle.layers.proofs.write_buffer.WriteBufferMemory.read.Goals as goal
 
-pub returns-then-address-size : goal.returns-then-address-size
-returns-then-address-size g c = search (rules, read_out)
+pub returns-in_err-check_address : goal.returns-in_err-check_address
+returns-in_err-check_address g c = search (rules, read_refused)
 
 pub returns-in-Some : goal.returns-in-Some
 returns-in-Some g c =

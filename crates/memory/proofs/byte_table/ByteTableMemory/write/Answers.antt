@@ -7,8 +7,8 @@ use Rattle.memory.proofs.byte_table.ByteTableMemory.write.Goals as goal
 pub put_number-requires : goal.put_number-requires
 put_number-requires c = search (rules, shows, length-words_of)
 
-pub returns-then-address-size : goal.returns-then-address-size
-returns-then-address-size c = search (rules, shows, answers, table_out)
+pub returns-in_err-check_address-clause-table : goal.returns-in_err-check_address-clause-table
+returns-in_err-check_address-clause-table c = search (rules, shows, answers, table_out)
 
 pub returns : goal.returns
 returns c = search (rules, shows, answers, length-words_of, bytes_write, table_in)
