@@ -104,6 +104,8 @@ fn masks_taken(order: AnyOrder) -> (u32, u32) {
 #[cfg(test)]
 mod tests {
     use super::*;
+    use orders::translation::translate;
+    use std::test::Fail;
 
     #[test]
     fn spans(rt: HostRuntime) {
@@ -158,5 +160,24 @@ mod tests {
         assert_eq!(rt; masks_taken(AnyOrder::Rmo), (15, 32));
         assert_eq!(rt; masks_taken(AnyOrder::Ibm370), (1, 1));
         assert_eq!(rt; masks_taken(AnyOrder::Ia64), (1, 4));
+    }
+
+    // A barrier of all kinds has four fences, and a load of sc four instructions; a clone of each has as many.
+    #[test]
+    fn clones(rt: HostRuntime) -> Result<(), Fail> {
+        let fences = AnyOrder::Rmo.before(Shape::Barrier(15));
+        assert_eq!(rt; fences.clone()?.count(), 4);
+        assert_eq!(rt; fences.count(), 4);
+        let load: Entry<u32> = Entry::Load {
+            mark: Mark::Plain,
+            address: 3,
+        };
+        let translated = translate(&AnyOrder::Sc, load);
+        assert!(rt; translated.is_ok());
+        if let Ok(translation) = translated {
+            assert_eq!(rt; translation.clone()?.count(), 4);
+            assert_eq!(rt; translation.count(), 4);
+        }
+        Ok(())
     }
 }
