@@ -2,6 +2,7 @@
 ghost use Rattle.std.specs.Prelude.{◌≡◌, ◌+◌, ◌*◌, ◌<◌, ◌≤◌, true, false, length, Some, None, MatchOption, MatchResult};
 ghost use Rattle.files.specs.Day.{run_count, offset_of, length_of, gapless, sound_day, run_part_of, RunOf};
 ghost use Rattle.files.specs.Faults.{header_fault_number};
+ghost use Rattle.memory.specs.Bytes.{number_at};
 
 use crate::header::HeaderFault;
 use memory::numbers::number_at;
@@ -37,14 +38,24 @@ fn run_count(bytes: &[u8]) -> usize
     }
 }
 
+// The number in the four bytes from place `at` on, all of which are there.
+// Kept: beside `number_at`, which looks whether they are there. A day's header is tested once, and read twice for each run.
+#[tactic(auto, unfolding(memory::specs::Bytes::number_at))]
+fn whole_number_at(bytes: &[u8], at: usize) -> u32
+    requires { at + 4 ≤ length bytes.now }
+    ensures { result ≡ number_at bytes.now at }
+{
+    u32::from_le_bytes([bytes[at], bytes[at + 1], bytes[at + 2], bytes[at + 3]])
+}
+
 // Where run n starts and ends, as the header says.
 fn range_at(bytes: &[u8], n: usize) -> Range<usize>
     requires { 12 + 8 * n ≤ length bytes.now }
     ensures start { result.start ≡ offset_of bytes.now n }
     ensures end { result.end ≡ offset_of bytes.now n + length_of bytes.now n }
 {
-    let start = number_at(bytes, 4 + 8 * n) as usize;
-    start..start + number_at(bytes, 8 + 8 * n) as usize
+    let start = whole_number_at(bytes, 4 + 8 * n) as usize;
+    start..start + whole_number_at(bytes, 8 + 8 * n) as usize
 }
 
 // Whether the runs lie without a gap from the header's end to the file's.

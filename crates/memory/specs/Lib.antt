@@ -3,3 +3,4 @@ pub mod Meaning
 pub mod Shown
 pub mod Bytes
 pub mod Tables
+pub mod Origins

@@ -1,4 +1,6 @@
 // Words that say where they come from: the memory's initial words, or the store of a card's entry.
+ghost use Rattle.std.specs.Prelude.{◌≡◌};
+ghost use Rattle.memory.specs.Origins.{origin_alike};
 ghost use Rattle.std.proofs.Common.{rules};
 
 use crate::word::Word;
@@ -10,7 +12,15 @@ pub enum Origin {
 }
 
 impl Word for Origin {
+    ghost alike = { origin_alike };
+
     ghost alike_equal = { Prim.search rules };
 
     ghost equal_alike = { Prim.search rules };
+
+    fn same(&self, other: &Self) -> bool
+        ensures { result ≡ origin_alike self.now other.now }
+    {
+        *self == *other
+    }
 }

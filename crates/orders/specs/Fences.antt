@@ -1,13 +1,18 @@
 -- Up to four fences, and the fences of a barrier.
-use Rattle.std.specs.Prelude.{ℕ, Bool, cond, not, List, [], ◌∷◌, ◌++◌, map, ◌==◌, bit_and}
+use Rattle.std.specs.Prelude.{ℕ, Bool, cond, not, List, [], ◌∷◌, ◌++◌, ◌==◌, bit_and}
 use Rattle.crf.specs.Fences.{Row, row_of, star_star}
 use Rattle.crf.specs.declared.instruction.FenceKind.{FenceKind}
 use Rattle.crf.specs.declared.instruction.FenceKind.TheVariants.{Rr, Rw, Wr, Ww}
 use Rattle.orders.specs.declared.fences.Fences.{Fences}
+use Rattle.orders.specs.declared.fences.Fences.TheVariants.{Zero, One, Two, Three, Four}
 
 -- the fences in their order, as rows of their spans' ends
 abbrev pub rows : Fences → List Row
-rows f = map row_of f.fences.items
+rows Zero = []
+rows (One a) = row_of a ∷ []
+rows (Two a b) = row_of a ∷ row_of b ∷ []
+rows (Three a b c) = row_of a ∷ row_of b ∷ row_of c ∷ []
+rows (Four a b c d) = row_of a ∷ row_of b ∷ row_of c ∷ row_of d ∷ []
 
 -- the mask has the bit
 abbrev pub has : ℕ → ℕ → Bool

@@ -3,22 +3,24 @@ ghost use Rattle.std.specs.Prelude.{◌≡◌, ◌+◌, ◌<◌, ◌≤◌, [], 
 ghost use Rattle.crf.specs.Fences.{row_of, star_to, from_star};
 ghost use Rattle.orders.specs.Fences.{rows, if_has, by_mask};
 
-use arrayvec::ArrayVec;
 use crf::fence::Fence;
 use crf::instruction::FenceKind;
 
-#[derive(Clone, Drop)]
-pub struct Fences {
-    fences: ArrayVec<Fence, 4>,
+// Kept: an enum of none to four, since the fences of a place are copied, and an `ArrayVec` can't be.
+#[derive(Clone, Copy)]
+pub enum Fences {
+    Zero,
+    One(Fence),
+    Two(Fence, Fence),
+    Three(Fence, Fence, Fence),
+    Four(Fence, Fence, Fence, Fence),
 }
 
 impl Fences {
     pub fn none() -> Fences
         ensures { rows result ≡ [] }
     {
-        Fences {
-            fences: ArrayVec::new(),
-        }
+        Self::Zero
     }
 
     pub fn one(fence: Fence) -> Fences
@@ -34,15 +36,18 @@ impl Fences {
     }
 
     // One fence more, if there are fewer than four.
-    pub fn with(mut self, fence: Fence) -> Fences
+    pub fn with(self, fence: Fence) -> Fences
         ensures more { length (rows self) < 4 → rows result ≡ rows self ++ (row_of fence ∷ []) }
         ensures full { 4 ≤ length (rows self) → rows result ≡ rows self }
         ensures few { length (rows result) ≤ length (rows self) + 1 }
     {
-        if !self.fences.is_full() {
-            self.fences.push(fence);
+        match self {
+            Fences::Zero => Fences::One(fence),
+            Fences::One(a) => Fences::Two(a, fence),
+            Fences::Two(a, b) => Fences::Three(a, b, fence),
+            Fences::Three(a, b, c) => Fences::Four(a, b, c, fence),
+            Fences::Four(_, _, _, _) => self,
         }
-        self
     }
 
     // Two fences between all addresses and `address`.
@@ -88,17 +93,33 @@ impl Fences {
             .with_kind(mask, 8, FenceKind::Ww)
     }
 
-    pub fn count(&self) -> usize
-        ensures count { result ≡ length (rows self.now) }
+    pub fn count(self) -> usize
+        ensures count { result ≡ length (rows self) }
         ensures few { result ≤ 4 }
     {
-        self.fences.len()
+        match self {
+            Fences::Zero => 0,
+            Fences::One(_) => 1,
+            Fences::Two(_, _) => 2,
+            Fences::Three(_, _, _) => 3,
+            Fences::Four(_, _, _, _) => 4,
+        }
     }
 
     // The fence at a place of their row, counted from 0.
-    pub fn get(&self, k: usize) -> Option<Fence>
-        ensures { option_map row_of result ≡ slice_get (rows self.now) k }
+    pub fn get(self, k: usize) -> Option<Fence>
+        ensures { option_map row_of result ≡ slice_get (rows self) k }
     {
-        self.fences.get(k).copied()
+        match (self, k) {
+            (Fences::One(a), 0)
+            | (Fences::Two(a, _), 0)
+            | (Fences::Three(a, _, _), 0)
+            | (Fences::Four(a, _, _, _), 0) => Some(a),
+            (Fences::Two(_, b), 1) | (Fences::Three(_, b, _), 1) | (Fences::Four(_, b, _, _), 1) =>
+                Some(b),
+            (Fences::Three(_, _, c), 2) | (Fences::Four(_, _, c, _), 2) => Some(c),
+            (Fences::Four(_, _, _, d), 3) => Some(d),
+            _ => None,
+        }
     }
 }

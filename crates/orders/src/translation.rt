@@ -11,7 +11,7 @@ use crate::order::MemoryOrder;
 use crf::instruction::Instruction;
 
 // An entry with the fences that stand before and after it.
-#[derive(Clone, Drop)]
+#[derive(Clone, Copy)]
 pub struct Translation<W> {
     pub before: Fences,
     pub entry: Entry<W>,

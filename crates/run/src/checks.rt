@@ -44,13 +44,13 @@ impl<W: Word> Effect<W> {
 
     // A recorded word, if there is one, is the word loaded.
     pub(crate) fn agrees(&self, recorded: Option<W>) -> Result<(), StepFault>
-        ensures { result ≡ agreed W.eq recorded self.now }
+        ensures { result ≡ agreed W.alike recorded self.now }
     {
         let Some(recorded) = recorded else {
             return Ok(());
         };
         match self {
-            Effect::Loads(loaded) if recorded == *loaded => Ok(()),
+            Effect::Loads(loaded) if recorded.same(loaded) => Ok(()),
             _ => Err(StepFault::WordDiffers),
         }
     }

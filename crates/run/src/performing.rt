@@ -53,10 +53,13 @@ impl<W: Word, M: Memory<Word = W>> Running<M> {
         ensures is { result ≡ cell_in tables.now.cells.now (length (M.meaning self.now.memory)) card address }
         ensures known { OnOk result (address < length (M.meaning self.now.memory)) }
     {
-        if address >= self.memory.size() {
+        let size = self.memory.size();
+        if address >= size {
             return Err(StepFault::NoSuchAddress);
         }
-        let cell = tables.cells.get(self.place(card, address)).copied();
+        // The size is asked once: that of a memory in layers takes time.
+        let at = card as usize * size as usize + address as usize;
+        let cell = tables.cells.get(at).copied();
         Ok(cell.unwrap_or(Cell::Absent))
     }
 
@@ -93,7 +96,7 @@ impl<W: Word, M: Memory<Word = W>> Running<M> {
         position: u32,
         recorded: Option<W>,
     ) -> Result<Plan<W>, StepFault>
-        ensures is { result ≡ weighed W.eq (world_of M.meaning self.now tables.now) card position recorded }
+        ensures is { result ≡ weighed W.alike (world_of M.meaning self.now tables.now) card position recorded }
         ensures known { OnOk result (card < length tables.now.cards.now) }
     {
         let held = self.known_card(tables, card)?;
@@ -111,14 +114,15 @@ impl<W: Word, M: Memory<Word = W>> Running<M> {
         position: u32,
         recorded: Option<W>,
     ) -> Result<Option<W>, StepFault>
-        ensures world { record { answer = result; after = world_of M.meaning self.new tables.new } ≡ performed W.eq (world_of M.meaning self.old tables.old) card position recorded }
+        ensures world { record { answer = result; after = world_of M.meaning self.new tables.new } ≡ performed W.alike (world_of M.meaning self.old tables.old) card position recorded }
         ensures same { self.new.memory ≡ self.old.memory }
         ensures tables { SameTables tables.old tables.new }
     {
         let Plan { row, effect } = self.decide(tables, card, position, recorded)?;
         self.room(tables)?;
+        let at = self.place(card, row.address());
         tables.cards[card as usize].spend();
-        effect.change(tables.cells, self.place(card, row.address()));
+        effect.change(tables.cells, at);
         put(tables.code, code_place(card, position), row.done());
         self.note(tables.steps, effect.step_row(card, position));
         Ok(effect.answer())
@@ -131,7 +135,7 @@ impl<W: Word, M: Memory<Word = W>> Running<M> {
         card: u32,
         position: u32,
     ) -> Result<Option<W>, StepFault>
-        ensures world { record { answer = result; after = world_of M.meaning self.new tables.new } ≡ performed W.eq (world_of M.meaning self.old tables.old) card position None }
+        ensures world { record { answer = result; after = world_of M.meaning self.new tables.new } ≡ performed W.alike (world_of M.meaning self.old tables.old) card position None }
         ensures same { self.new.memory ≡ self.old.memory }
         ensures tables { SameTables tables.old tables.new }
     {
@@ -146,7 +150,7 @@ impl<W: Word, M: Memory<Word = W>> Running<M> {
         position: u32,
         recorded: W,
     ) -> Result<Option<W>, StepFault>
-        ensures world { record { answer = result; after = world_of M.meaning self.new tables.new } ≡ performed W.eq (world_of M.meaning self.old tables.old) card position (Some recorded) }
+        ensures world { record { answer = result; after = world_of M.meaning self.new tables.new } ≡ performed W.alike (world_of M.meaning self.old tables.old) card position (Some recorded) }
         ensures same { self.new.memory ≡ self.old.memory }
         ensures tables { SameTables tables.old tables.new }
     {
